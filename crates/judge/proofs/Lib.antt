@@ -1,0 +1,5 @@
+pub mod Covering
+pub mod Safe
+pub mod OneVerdict
+pub mod Meeting
+pub mod Walking

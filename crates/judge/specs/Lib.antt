@@ -1,0 +1,5 @@
+pub mod Number
+pub mod Walk
+pub mod Acceptance
+pub mod Safety
+pub mod Law

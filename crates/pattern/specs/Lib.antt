@@ -1,0 +1,5 @@
+pub mod Number
+pub mod Meaning
+pub mod Duty
+pub mod Run
+pub mod Call
