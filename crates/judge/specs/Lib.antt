@@ -3,3 +3,4 @@ pub mod Walk
 pub mod Acceptance
 pub mod Safety
 pub mod Law
+pub mod Play
