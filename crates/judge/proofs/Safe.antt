@@ -66,7 +66,7 @@ module _ {S : Type 0} (m : Meaning S) (d : Duties m) (table : List Claim) (ok : 
 
   -- A look at the fault in a state without rows says no.
   look-says-no : (s : S) (row : ℕ) (r : Result Bool LookRefusal) → Looked m s row r → Clear m s → row ≡ 0 → r ≡ Ok false
-  look-says-no s row (Ok true) w clear e = absurd (clear row (w .0) (w .1))
+  look-says-no s row (Ok true) w clear e = absurd (clear row (w .0) (w .1 .0 refl))
   look-says-no s row (Ok false) w clear e = refl
   look-says-no s row (Err _) w clear e = absurd (omega (arith, d .some-row))
 

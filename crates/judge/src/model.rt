@@ -30,7 +30,7 @@ pub struct Rejected<K> {
 }
 
 /// A call on a model.
-#[derive(Drop, Debug)]
+#[derive(Drop)]
 pub enum Call {
     Fire { rule: usize, choice: Vec<u8> },
     Look { row: usize },
@@ -114,6 +114,13 @@ impl<K: PatternKind> Model<K> {
             answers.push_reserved(self.perform(call));
         }
         Ok(answers)
+    }
+
+    /// The pattern kind, in the state that the model is in.
+    pub fn kind(&self) -> &K
+        ensures { λ r. ⌜ now r ≡ now (self .entry) .kind ⌝ }
+    {
+        &self.kind
     }
 
     /// Gives the pattern kind back, in the state that the model is in.

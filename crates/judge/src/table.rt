@@ -6,7 +6,7 @@ use pattern::answer::CaseEq;
 use pattern::answer::CasePartialEq;
 
 /// An entry of a table: the row that covers the next open case, and the matching by which it does.
-#[derive(Drop, Debug)]
+#[derive(Drop)]
 pub struct Entry {
     pub row: usize,
     pub matching: Vec<u8>,

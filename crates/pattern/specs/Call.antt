@@ -1,8 +1,9 @@
 -- What each call on a model answers and leaves, and what a list of calls does.
 use mathlib.Core.Path.{_≡_}
-use mathlib.Core.Bool.{Bool, true, false}
+use mathlib.Core.Bool.{Bool}
 use mathlib.Core.List.{List, [], _∷_, _++_}
 use Prim.Native.Nat.{ℕ, _<_, _≤_}
+use Rattle.std.specs.Orderings.{Decides}
 use Rattle.std.specs.declared.result.Result.{Result}
 use Rattle.std.specs.declared.result.Result.the-variants.{Ok, Err}
 use Rattle.pattern.specs.declared.answer.FireRefusal.{FireRefusal}
@@ -13,11 +14,6 @@ use Rattle.pattern.specs.declared.answer.Answer.the-variants.{Fired as fired, 
 use Rattle.pattern.specs.Meaning.{Meaning, to, stuck}
 use Rattle.pattern.specs.Run.{Firing}
 
--- The answer says whether the fact holds.
-abbrev pub Decides : Bool → Type 0 → Type 0
-Decides true P = P
-Decides false P = P → ⊥
-
 -- Firing a rule under a choice at s answers r and leaves t. The grounds of refusal are tried in this order, and a refusal leaves the state.
 abbrev pub Fired : {S : Type 0} → Meaning S → S → ℕ → List ℕ → Result (Unit {0}) FireRefusal → S → Type 0
 Fired m s rule choice (Ok _) t = (rule < m .rules) × m .Holds-choice rule s choice × m .Next s rule choice (to t) × m .Holds t
@@ -27,7 +23,7 @@ Fired m s rule choice (Err ConditionNotMet) t = (rule < m .rules) × m .Holds-ch
 Fired m s rule choice (Err EffectContradictory) t = (rule < m .rules) × m .Holds-choice rule s choice × m .Next s rule choice (stuck EffectContradictory) × (t ≡ s)
 Fired {S} m s rule choice (Err BeyondModel) t = (rule < m .rules) × m .Holds-choice rule s choice × ((u : S) × m .Next s rule choice (to u) × (m .Holds u → ⊥)) × (t ≡ s)
 
--- Looking at a row at s answers r.
+-- Looking at a row at s answers r: whether it stands, or that there is no such row.
 abbrev pub Looked : {S : Type 0} → Meaning S → S → ℕ → Result Bool LookRefusal → Type 0
 Looked m s row (Ok b) = (row < m .rows) × Decides b (m .Stands row s)
 Looked m s row (Err _) = m .rows ≤ row

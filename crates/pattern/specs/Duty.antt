@@ -40,7 +40,7 @@ pub record Duties {S : Type 0} (m : Meaning S) : Type 0 where
   pub opening-held : m .Holds (m .opening)
   -- What comes of a state by a rule under a choice is one thing, and never nothing.
   pub next-one : (s : S) (rule : ℕ) (choice : List ℕ) (x y : Step S) → m .Next s rule choice x → m .Next s rule choice y → x ≡ y
-  pub next-some : (s : S) (rule : ℕ) (choice : List ℕ) → ((x : Step S) → m .Next s rule choice x → ⊥) → ⊥
+  pub next-some : (s : S) (rule : ℕ) (choice : List ℕ) → rule < m .rules → ((x : Step S) → m .Next s rule choice x → ⊥) → ⊥
   -- Under a choice that the model holds, the ground for no next state is the rule's: its condition or its effect.
   pub grounds : (s : S) (rule : ℕ) (choice : List ℕ) (why : FireRefusal) → rule < m .rules → m .Holds-choice rule s choice → m .Next s rule choice (stuck why) → Ground why
   -- The limits.

@@ -9,4 +9,7 @@ pub use answer::Covering;
 pub use answer::FireRefusal;
 pub use answer::LookRefusal;
 pub use answer::Sort;
+pub use kind::MAX_CASES;
+pub use kind::MAX_ROWS;
+pub use kind::MAX_RULES;
 pub use kind::PatternKind;

@@ -1,0 +1,5 @@
+pub mod Patterns
+pub mod Duty
+pub mod Reading
+pub mod Asking
+pub mod Firing
