@@ -17,7 +17,7 @@ use Rattle.pattern.specs.declared.Sort.the-variants.{Idle, Own, Open}
 use Rattle.pattern.specs.declared.Covering.{Covering}
 use Rattle.pattern.specs.declared.Covering.the-variants.{Malformed, Covers, DoesNotCover}
 use Rattle.pattern.specs.Meaning.{Meaning, Step, to, stuck}
-use Rattle.pattern.specs.Duty.{Duties, Ground, most-rules, most-rows, most-cases}
+use Rattle.pattern.specs.Duty.{Duties, Ground, Rules-allowed, Rows-allowed, Cases-allowed}
 use Rattle.counts.specs.Net.{Marking, tally, _⊑_, at-most, after, earlier, Held}
 use Rattle.counts.specs.Counted.{CountedBook, rule-at, takes-of, gives-of, row-at, earlier-of, Exists, exists, Next-of, fires, choice-given, not-enough, Stands-of, Earlier-of, covers, sort-of, covering-of, counted-meaning, Exact}
 use Rattle.counts.proofs.Patterns.{decides-at-most}
@@ -107,8 +107,8 @@ module _ (b : CountedBook) where
       (ltb-true named (length (b .rows)) (r .1), covered c named s (p .1) w)
 
   -- The limits and the opening state are the constructor's part.
-  pub counted-duties : 1 ≤ length (b .rules) → length (b .rules) ≤ most-rules → 1 ≤ length (b .rows) → length (b .rows) ≤ most-rows → Held (tally (b .opening)) → Duties (counted-meaning b)
-  counted-duties some-rule rules-within some-row rows-within held = record {
+  pub counted-duties : Rules-allowed (length (b .rules)) → Rows-allowed (length (b .rows)) → Held (tally (b .opening)) → Duties (counted-meaning b)
+  counted-duties rules-in rows-in held = record {
     steps-back = steps-back;
     idle-empty = λ c s e w. idle-test (exists b c) (covers b c (c .row)) e (decides-exists c .1 (w .0));
     own-stands = λ c s e w. (w .0 .row-in, covered c (c .row) s (own-test (exists b c) (covers b c (c .row)) e) w);
@@ -117,9 +117,7 @@ module _ (b : CountedBook) where
     next-one = next-one;
     next-some = next-some;
     grounds = λ s rule choice why h. grounds s rule choice why;
-    some-rule = some-rule;
-    rules-within = rules-within;
-    some-row = some-row;
-    rows-within = rows-within;
-    cases-within = λ row rule. cond-both {A = ℕ} (ltb row (length (b .rows)) && ltb rule (length (b .rules))) 1 0 (λ n. n ≤ most-cases) (λ _. omega arith) (λ _. omega arith);
+    rules-allowed = rules-in;
+    rows-allowed = rows-in;
+    cases-allowed = λ row rule. cond-both {A = ℕ} (ltb row (length (b .rows)) && ltb rule (length (b .rules))) 1 0 Cases-allowed (λ _. omega arith) (λ _. omega arith);
   }

@@ -3,7 +3,7 @@ use mathlib.Core.Path.{_≡_}
 use mathlib.Core.List.{List}
 use Prim.Native.Nat.{ℕ, _<_, _≤_}
 use lib.ListN.{length}
-use Rattle.pattern.specs.Duty.{most-rules, most-rows}
+use Rattle.pattern.specs.Duty.{Rules-allowed, Rows-allowed}
 use Rattle.counts.specs.declared.net.NetRefusal.{NetRefusal}
 use Rattle.counts.specs.declared.net.NetRefusal.the-variants.{Places, Rules, Rows, RuleLength, RowLength, OutOfMemory}
 use Rattle.counts.specs.Net.{most-places}
@@ -22,10 +22,10 @@ module _ (b : CountedBook) where
   Places-in = (1 ≤ length (b .opening)) × (length (b .opening) ≤ most-places)
 
   abbrev pub Rules-in : Type 0
-  Rules-in = (1 ≤ length (b .rules)) × (length (b .rules) ≤ most-rules)
+  Rules-in = Rules-allowed (length (b .rules))
 
   abbrev pub Rows-in : Type 0
-  Rows-in = (1 ≤ length (b .rows)) × (length (b .rows) ≤ most-rows)
+  Rows-in = Rows-allowed (length (b .rows))
 
   abbrev pub Rules-fit : Type 0
   Rules-fit = (rule : ℕ) → rule < length (b .rules) → Rule-fits (length (b .opening)) (rule-at b rule)

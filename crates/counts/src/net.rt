@@ -13,8 +13,8 @@ ghost use Rattle.counts.specs.Counted.{rule-at, row-at, Exists};
 ghost use Rattle.counts.specs.Range.{Rule-fits, Row-fits, In-range, Refused-by};
 use pattern::Case;
 use pattern::FireRefusal;
-use pattern::MAX_ROWS;
-use pattern::MAX_RULES;
+use pattern::rows_allowed;
+use pattern::rules_allowed;
 use std::alloc::AllocError;
 
 /// The most places of a counted book.
@@ -78,10 +78,10 @@ impl Net {
         if places == 0 || places > MAX_PLACES {
             return Err(NetRefusal::Places);
         }
-        if self.rule_count() == 0 || self.rule_count() > MAX_RULES {
+        if !rules_allowed(self.rule_count()) {
             return Err(NetRefusal::Rules);
         }
-        if self.row_count() == 0 || self.row_count() > MAX_ROWS {
+        if !rows_allowed(self.row_count()) {
             return Err(NetRefusal::Rows);
         }
         if !self.rules_fit(places) {

@@ -62,13 +62,13 @@ module _ {S : Type 0} (m : Meaning S) (d : Duties m) (table : List Claim) (ok : 
   calls-lead (more w ws) l = calls-lead ws (called-leads w l)
 
   fault-clear : (s : S) → Clear m s → m .Stands 0 s → ⊥
-  fault-clear s clear = clear 0 (d .some-row)
+  fault-clear s clear = clear 0 (d .rows-allowed .0)
 
   -- A look at the fault in a state without rows says no.
   look-says-no : (s : S) (row : ℕ) (r : Result Bool LookRefusal) → Looked m s row r → Clear m s → row ≡ 0 → r ≡ Ok false
   look-says-no s row (Ok true) w clear e = absurd (clear row (w .0) (w .1 .0 refl))
   look-says-no s row (Ok false) w clear e = refl
-  look-says-no s row (Err _) w clear e = absurd (omega (arith, d .some-row))
+  look-says-no s row (Err _) w clear e = absurd (omega (arith, d .rows-allowed .0))
 
   called-says-no : {s t : S} {c : Call} {a : Answer} → Called m s c a t → Clear m s → c ≡ look 0 → a ≡ looked (Ok false)
   called-says-no (fires w) clear e = absurd (let z : _≡_ {A = ℕ} 0 1 = cc in omega arith)

@@ -10,14 +10,15 @@ use Rattle.pattern.specs.declared.answer.FireRefusal.the-variants.{NoSuchRule,
 use Rattle.pattern.specs.Meaning.{Meaning, Step, to, stuck}
 
 -- The limits of a pattern kind; anything larger is none.
-abbrev pub most-rules : ℕ
-most-rules = 32
+abbrev pub Rules-allowed : ℕ → Type 0
+Rules-allowed rules = (1 ≤ rules) × (rules ≤ 32)
 
-abbrev pub most-rows : ℕ
-most-rows = 64
+abbrev pub Rows-allowed : ℕ → Type 0
+Rows-allowed rows = (1 ≤ rows) × (rows ≤ 64)
 
-abbrev pub most-cases : ℕ
-most-cases = 16777216
+-- of one row and one rule
+abbrev pub Cases-allowed : ℕ → Type 0
+Cases-allowed cases = cases ≤ 16777216
 
 -- The grounds on which a rule has no next state under a choice that the model holds.
 abbrev pub Ground : FireRefusal → Type 0
@@ -44,8 +45,6 @@ pub record Duties {S : Type 0} (m : Meaning S) : Type 0 where
   -- Under a choice that the model holds, the ground for no next state is the rule's: its condition or its effect.
   pub grounds : (s : S) (rule : ℕ) (choice : List ℕ) (why : FireRefusal) → rule < m .rules → m .Holds-choice rule s choice → m .Next s rule choice (stuck why) → Ground why
   -- The limits.
-  pub some-rule : 1 ≤ m .rules
-  pub rules-within : m .rules ≤ most-rules
-  pub some-row : 1 ≤ m .rows
-  pub rows-within : m .rows ≤ most-rows
-  pub cases-within : (row rule : ℕ) → m .cases row rule ≤ most-cases
+  pub rules-allowed : Rules-allowed (m .rules)
+  pub rows-allowed : Rows-allowed (m .rows)
+  pub cases-allowed : (row rule : ℕ) → Cases-allowed (m .cases row rule)

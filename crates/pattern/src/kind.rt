@@ -9,15 +9,6 @@ use crate::answer::FireRefusal;
 use crate::answer::LookRefusal;
 use crate::answer::Sort;
 
-/// The most rules of a pattern kind.
-pub const MAX_RULES: usize = 32;
-
-/// The most rows of a pattern kind.
-pub const MAX_ROWS: usize = 64;
-
-/// The most cases of one row and one rule.
-pub const MAX_CASES: usize = 16_777_216;
-
 /// A class of transition systems with patterns: a rule book of some kind, with its rows and one state.
 pub trait PatternKind {
     // what a state is

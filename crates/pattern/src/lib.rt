@@ -2,6 +2,7 @@
 // and what it owes to whoever judges it.
 pub mod answer;
 mod kind;
+mod limit;
 
 pub use answer::Answer;
 pub use answer::Case;
@@ -9,7 +10,10 @@ pub use answer::Covering;
 pub use answer::FireRefusal;
 pub use answer::LookRefusal;
 pub use answer::Sort;
-pub use kind::MAX_CASES;
-pub use kind::MAX_ROWS;
-pub use kind::MAX_RULES;
 pub use kind::PatternKind;
+pub use limit::MAX_CASES;
+pub use limit::MAX_ROWS;
+pub use limit::MAX_RULES;
+pub use limit::cases_allowed;
+pub use limit::rows_allowed;
+pub use limit::rules_allowed;

@@ -3,4 +3,4 @@ use Rattle.counts.proofs.Duty.{counted-duties}
 use Rattle.counts.proofs.kind.CountsKind.the-impl.Needs as need
 
 pub duties-law : need.duties-law
-duties-law k v = counted-duties (book-of (k .net)) (k .«rules_in» .0) (k .«rules_in» .1) (k .«rows_in» .0) (k .«rows_in» .1) (k .opens)
+duties-law k v = counted-duties (book-of (k .net)) (k .«rules_in») (k .«rows_in») (k .opens)

@@ -1,0 +1,3 @@
+pub mod Mode
+pub mod Observed
+pub mod Kind
