@@ -42,4 +42,10 @@ worked = record {
   full-fires = (omega arith, refl, fires (omega arith) refl full-takes (λ i place. full-again place i), full-held);
   pump-open = refl;
   pump-accepted = record { clear = pump-clear; covered = next (omega arith, refl) (next (omega arith, refl) (next (omega arith, refl) (next (omega arith, refl) none))) };
+  observed-idle = refl;
+  observed-open = refl;
+  observed-own = refl;
+  observed-walk = refl;
+  twice-cases = refl;
+  twice-walk = refl;
 }

@@ -3,6 +3,8 @@ ghost use Rattle.examples.specs.Worked.{Worked};
 
 #[cfg(test)]
 mod counted;
+#[cfg(test)]
+mod observed;
 
 /// The worked examples hold of the definitions.
 pub fn worked_examples()

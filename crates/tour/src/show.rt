@@ -4,7 +4,7 @@ use judge::TableRefusal;
 use pattern::Answer;
 use std::error::AnyError;
 
-pub fn show_refusal(rt: &LibcRuntime, table: &str, refusal: &TableRefusal) -> Result<(), AnyError> {
+pub fn show_refusal(rt: &LibcRuntime, refusal: &TableRefusal) -> Result<(), AnyError> {
     let number = refusal.ground.number();
     let entry = refusal.entry;
     let row = refusal.case.row;
@@ -12,7 +12,7 @@ pub fn show_refusal(rt: &LibcRuntime, table: &str, refusal: &TableRefusal) -> Re
     let case = refusal.case.number;
     println!(
         rt,
-        "{table}: REFUSE {number} row {row} rule {rule} case {case} entry {entry}"
+        "REFUSE {number} row {row} rule {rule} case {case} entry {entry}"
     )?;
     Ok(())
 }
