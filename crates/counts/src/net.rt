@@ -94,14 +94,14 @@ impl Net {
     }
 
     /// How many rules there are.
-    pub(crate) fn rule_count(&self) -> usize
+    pub fn rule_count(&self) -> usize
         ensures { λ r. ⌜ r ≡ length (book-of (now (self .entry)) .rules) ⌝ }
     {
         self.rules.len()
     }
 
     /// How many rows there are.
-    pub(crate) fn row_count(&self) -> usize
+    pub fn row_count(&self) -> usize
         ensures { λ r. ⌜ r ≡ length (book-of (now (self .entry)) .rows) ⌝ }
     {
         self.rows.len()

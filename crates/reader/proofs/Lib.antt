@@ -1,0 +1,5 @@
+pub mod Fields
+pub mod Pushing
+pub mod Taking
+pub mod InForm
+pub mod OneVerdict
