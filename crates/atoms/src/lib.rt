@@ -1,4 +1,6 @@
 // Books of atoms: rules that fire on objects, rows that stand where their variables can be placed.
+#![tactic(auto)]
+
 pub mod book;
 pub mod calls;
 pub mod cells;

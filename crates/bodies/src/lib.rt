@@ -1,4 +1,6 @@
 // The bodies of records of books of atoms: atoms, literals, rules and rows from their bytes.
+#![tactic(auto)]
+
 mod list;
 pub mod literal;
 mod rule;

@@ -1,4 +1,6 @@
 // Reports each file of a list: standard input has a file a line, in hexadecimal.
+#![tactic(auto)]
+
 ghost use Rattle.std.specs.Prelude.{◌<◌};
 
 use anyhow::anyhow;

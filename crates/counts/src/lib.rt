@@ -1,4 +1,6 @@
 // Counted books: rules that take and give at places, rows that ask for a least count at each.
+#![tactic(auto)]
+
 pub mod counted;
 pub mod kind;
 pub mod net;

@@ -1,4 +1,6 @@
 // From the bytes of a file to a verdict, to the line that reports it, and to a model of the book.
+#![tactic(auto)]
+
 mod building;
 pub mod kind;
 pub mod model;

@@ -1,4 +1,6 @@
 // What the records of a file hold, taken record by record.
+#![tactic(auto)]
+
 mod allow;
 mod book;
 pub mod draft;

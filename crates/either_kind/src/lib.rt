@@ -1,4 +1,6 @@
 // A pattern kind that is of either of two kinds.
+#![tactic(auto)]
+
 pub mod kind;
 pub mod sum;
 

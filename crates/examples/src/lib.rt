@@ -1,4 +1,6 @@
 // Worked examples: stated of the definitions and proved, and run on the code.
+#![tactic(auto)]
+
 ghost use Rattle.std.specs.Prelude.{◌≡◌, length};
 ghost use Rattle.judge.specs.Walk.{open_cases};
 ghost use Rattle.counts.specs.Counted.{counted_meaning};

@@ -1,4 +1,6 @@
 // The judge of dossiers over any pattern kind, and the model that an accepted one gives.
+#![tactic(auto)]
+
 mod judging;
 pub mod model;
 pub mod table;

@@ -1,4 +1,6 @@
 // The verdict on a file, and the line that reports it.
+#![tactic(auto)]
+
 pub mod verdict;
 mod writing;
 

@@ -1,4 +1,6 @@
 // Literals over variables or objects: what they say, and what follows from a set of them.
+#![tactic(auto)]
+
 pub mod literal;
 pub mod set;
 

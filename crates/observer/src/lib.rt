@@ -1,4 +1,6 @@
 // Observers: small automata that move at each firing, over any pattern kind.
+#![tactic(auto)]
+
 pub mod kind;
 pub mod mode;
 pub mod observed;

@@ -1,5 +1,7 @@
 // What a pattern kind is: its questions, its one state that can be fired, looked at and restarted,
 // and what it owes to whoever judges it.
+#![tactic(auto)]
+
 pub mod answer;
 mod kind;
 mod limit;

@@ -1,4 +1,6 @@
 // Steps backwards over books of atoms: the cases of a rule and a row, their earlier patterns, and what covers them.
+#![tactic(auto)]
+
 pub mod case;
 pub mod earlier;
 pub mod effect;

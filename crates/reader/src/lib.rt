@@ -1,4 +1,6 @@
 // From the bytes of a file to the data of a dossier.
+#![tactic(auto)]
+
 mod allow;
 pub mod draft;
 pub mod fault;

@@ -1,5 +1,7 @@
 // The records of a file: their kinds, their order, their bodies as they stand in the file, the fields
 // of a body, and what can be at fault.
+#![tactic(auto)]
+
 pub mod fault;
 mod field;
 pub mod record;

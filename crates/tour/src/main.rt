@@ -1,5 +1,7 @@
 // A tour of the library: judges books with right tables and with wrong ones, makes their models,
 // plays calls on them and prints what each answered.
+#![tactic(auto)]
+
 mod order;
 mod pump;
 mod show;

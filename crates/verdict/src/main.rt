@@ -1,4 +1,6 @@
 // Judges the dossier on standard input, and prints the line of its verdict.
+#![tactic(auto)]
+
 use anyhow::anyhow;
 use dossier::{MIN_BUFFER, report};
 use line::NoLine;
