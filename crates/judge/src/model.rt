@@ -35,10 +35,10 @@ impl<K: PatternKind> Model<K> {
     /// Judges the table and, where it is accepted, makes a model in the opening state. Where it is
     /// refused no model is made, and the kind comes back as it was.
     pub fn new(mut kind: K, entries: &[Entry]) -> Result<Model<K>, Rejected<K>>
-        requires { valid kind }
-        ensures law { Law (meaning (book kind)) (claims entries.now) (answer_of result) }
-        ensures opens { IfOk result (λ m. valid m.kind × (book m.kind ≡ book kind) × (state m.kind ≡ (meaning (book kind)).opening)) }
-        ensures guarded { IfOk result (λ m. Guarded (meaning (book kind)) (state m.kind)) }
+        requires { K.valid kind }
+        ensures law { Law (K.meaning (K.book kind)) (claims entries.now) (answer_of result) }
+        ensures opens { IfOk result (λ m. K.valid m.kind × (K.book m.kind ≡ K.book kind) × (K.state m.kind ≡ (K.meaning (K.book kind)).opening)) }
+        ensures guarded { IfOk result (λ m. Guarded (K.meaning (K.book kind)) (K.state m.kind)) }
         ensures hands_back { IfErr result (λ x. x.kind ≡ kind) }
     {
         match judge(&kind, entries) {
@@ -52,38 +52,38 @@ impl<K: PatternKind> Model<K> {
 
     /// Fires a rule under a choice; a refusal leaves the state.
     pub fn fire(&mut self, rule: usize, choice: &[u8]) -> Result<(), FireRefusal>
-        requires { valid self.old.kind }
-        ensures same { book self.new.kind ≡ book self.old.kind }
-        ensures good { valid self.new.kind }
-        ensures fired { Fired (meaning (book self.old.kind)) (state self.old.kind) rule choice.now result (state self.new.kind) }
+        requires { K.valid self.old.kind }
+        ensures same { K.book self.new.kind ≡ K.book self.old.kind }
+        ensures good { K.valid self.new.kind }
+        ensures fired { Fired (K.meaning (K.book self.old.kind)) (K.state self.old.kind) rule choice.now result (K.state self.new.kind) }
     {
         self.kind.fire(rule, choice)
     }
 
     /// Whether a row stands in the state.
     pub fn look(&self, row: usize) -> Result<bool, LookRefusal>
-        requires { valid self.now.kind }
-        ensures { Looked (meaning (book self.now.kind)) (state self.now.kind) row result }
+        requires { K.valid self.now.kind }
+        ensures { Looked (K.meaning (K.book self.now.kind)) (K.state self.now.kind) row result }
     {
         self.kind.look(row)
     }
 
     /// Goes back to the opening state.
     pub fn restart(&mut self)
-        requires { valid self.old.kind }
-        ensures same { book self.new.kind ≡ book self.old.kind }
-        ensures good { valid self.new.kind }
-        ensures back { state self.new.kind ≡ (meaning (book self.old.kind)).opening }
+        requires { K.valid self.old.kind }
+        ensures same { K.book self.new.kind ≡ K.book self.old.kind }
+        ensures good { K.valid self.new.kind }
+        ensures back { K.state self.new.kind ≡ (K.meaning (K.book self.old.kind)).opening }
     {
         self.kind.restart();
     }
 
     /// Makes one call.
     pub fn perform(&mut self, call: &Call) -> Answer
-        requires { valid self.old.kind }
-        ensures same { book self.new.kind ≡ book self.old.kind }
-        ensures good { valid self.new.kind }
-        ensures called { Called (meaning (book self.old.kind)) (state self.old.kind) (call_of call.now) result (state self.new.kind) }
+        requires { K.valid self.old.kind }
+        ensures same { K.book self.new.kind ≡ K.book self.old.kind }
+        ensures good { K.valid self.new.kind }
+        ensures called { Called (K.meaning (K.book self.old.kind)) (K.state self.old.kind) (call_of call.now) result (K.state self.new.kind) }
     {
         match call {
             Call::Fire { rule, choice } => Answer::Fired(self.fire(*rule, choice)),
@@ -97,11 +97,11 @@ impl<K: PatternKind> Model<K> {
 
     /// Makes the calls in order, and gives their answers. For want of memory none is made.
     pub fn play(&mut self, heap: Global, calls: &[Call]) -> Result<Vec<Answer>, AllocError>
-        requires { valid self.old.kind }
-        ensures same { book self.new.kind ≡ book self.old.kind }
-        ensures good { valid self.new.kind }
+        requires { K.valid self.old.kind }
+        ensures same { K.book self.new.kind ≡ K.book self.old.kind }
+        ensures good { K.valid self.new.kind }
         ensures answers { IfOk result (λ v. vec_len v ≡ length calls.now) }
-        ensures played { IfOk result (λ v. Calls (meaning (book self.old.kind)) (state self.old.kind) (log_of calls.now v.items) (state self.new.kind)) }
+        ensures played { IfOk result (λ v. Calls (K.meaning (K.book self.old.kind)) (K.state self.old.kind) (log_of calls.now v.items) (K.state self.new.kind)) }
         ensures unmoved { OnErr result (self.new ≡ self.old) }
     {
         let mut answers = Vec::with_capacity(heap, calls.len())?;

@@ -28,8 +28,8 @@ impl<K: PatternKind> Observer<K> {
 
     /// The mode to which a rule moves from a mode.
     fn next_mode(&self, rule: usize, mode: Mode) -> Mode
-        requires good { valid_of valid meaning book self.now }
-        requires rule_in { rule < (meaning (book self.now.below)).rules }
+        requires good { valid_of K.valid K.meaning K.book self.now }
+        requires rule_in { rule < (K.meaning (K.book self.now.below)).rules }
         ensures { result ≡ slice_index_or self.now.moves.items (rule * mode_count + mode_number mode) ModeZero }
     {
         self.moves[rule * Mode::COUNT + usize::from(mode.number())]
@@ -37,8 +37,8 @@ impl<K: PatternKind> Observer<K> {
 
     /// The parts of a case, where there is such a case.
     fn parts(&self, case: Case) -> Option<Parts>
-        requires { valid_of valid meaning book self.now }
-        ensures { MatchOption result (Exists (meaning (book self.now.below)) (book_of book self.now) case → ⊥) (λ p. Exists (meaning (book self.now.below)) (book_of book self.now) case × (p.row ≡ row_at (meaning (book self.now.below)) (book_of book self.now) case.row) × (mode_number p.before ≡ mode_before (meaning (book self.now.below)) (book_of book self.now) case) × (p.below ≡ case_below (meaning (book self.now.below)) (book_of book self.now) case)) }
+        requires { valid_of K.valid K.meaning K.book self.now }
+        ensures { MatchOption result (Exists (K.meaning (K.book self.now.below)) (book_of K.book self.now) case → ⊥) (λ p. Exists (K.meaning (K.book self.now.below)) (book_of K.book self.now) case × (p.row ≡ row_at (K.meaning (K.book self.now.below)) (book_of K.book self.now) case.row) × (mode_number p.before ≡ mode_before (K.meaning (K.book self.now.below)) (book_of K.book self.now) case) × (p.below ≡ case_below (K.meaning (K.book self.now.below)) (book_of K.book self.now) case)) }
     {
         let row = self.row(case.row)?;
         if case.rule >= self.below.rules() {

@@ -17,8 +17,8 @@ impl<K: PatternKind> Observer<K> {
         moves: Vec<Mode>,
         rows: Vec<ObserverRow>,
     ) -> Result<Observer<K>, NotObserved<K>>
-        requires { valid below }
-        ensures { Made valid meaning book below moves rows result }
+        requires { K.valid below }
+        ensures { Made K.valid K.meaning K.book below moves rows result }
     {
         match check(&below, &moves, &rows) {
             Ok(()) => Ok(Observer {
@@ -43,8 +43,8 @@ fn check<K: PatternKind>(
     moves: &[Mode],
     rows: &[ObserverRow],
 ) -> Result<(), ObserverRefusal>
-    requires { valid below.now }
-    ensures { MatchResult result (λ _. InRange (meaning (book below.entry.now)) (record { below = book below.entry.now; moves = moves.now; rows = rows.now })) (λ e. RefusedBy (meaning (book below.entry.now)) (record { below = book below.entry.now; moves = moves.now; rows = rows.now }) e) }
+    requires { K.valid below.now }
+    ensures { MatchResult result (λ _. InRange (K.meaning (K.book below.entry.now)) (record { below = K.book below.entry.now; moves = moves.now; rows = rows.now })) (λ e. RefusedBy (K.meaning (K.book below.entry.now)) (record { below = K.book below.entry.now; moves = moves.now; rows = rows.now }) e) }
 {
     if moves.len() != below.rules() * Mode::COUNT {
         return Err(ObserverRefusal::Moves);
@@ -63,8 +63,8 @@ fn check<K: PatternKind>(
 
 /// Whether each row names a row below.
 fn rows_below<K: PatternKind>(below: &K, rows: &[ObserverRow]) -> bool
-    requires { valid below.now }
-    ensures { Decides result ((row : ℕ) → row < length rows.now → (slice_index_or rows.now row (record { below = 0; mode = ModeZero })).below < (meaning (book below.entry.now)).rows) }
+    requires { K.valid below.now }
+    ensures { Decides result ((row : ℕ) → row < length rows.now → (slice_index_or rows.now row (record { below = 0; mode = ModeZero })).below < (K.meaning (K.book below.entry.now)).rows) }
 {
     for row in rows {
         if row.below >= below.rows() {
@@ -76,8 +76,8 @@ fn rows_below<K: PatternKind>(below: &K, rows: &[ObserverRow]) -> bool
 
 /// Whether four times the cases of each row below stay within the limit.
 fn cases_fit<K: PatternKind>(below: &K, rows: &[ObserverRow]) -> bool
-    requires { valid below.now }
-    ensures { Decides result ((row : ℕ) → row < length rows.now → (rule : ℕ) → rule < (meaning (book below.entry.now)).rules → CasesAllowed (mode_count * (meaning (book below.entry.now)).cases (slice_index_or rows.now row (record { below = 0; mode = ModeZero })).below rule)) }
+    requires { K.valid below.now }
+    ensures { Decides result ((row : ℕ) → row < length rows.now → (rule : ℕ) → rule < (K.meaning (K.book below.entry.now)).rules → CasesAllowed (mode_count * (K.meaning (K.book below.entry.now)).cases (slice_index_or rows.now row (record { below = 0; mode = ModeZero })).below rule)) }
 {
     for row in rows {
         if !row_fits(below, row.below) {
@@ -89,8 +89,8 @@ fn cases_fit<K: PatternKind>(below: &K, rows: &[ObserverRow]) -> bool
 
 /// Whether four times the cases of a row and each rule below stay within the limit.
 fn row_fits<K: PatternKind>(below: &K, row: usize) -> bool
-    requires { valid below.now }
-    ensures { Decides result ((rule : ℕ) → rule < (meaning (book below.now)).rules → CasesAllowed (mode_count * (meaning (book below.now)).cases row rule)) }
+    requires { K.valid below.now }
+    ensures { Decides result ((rule : ℕ) → rule < (K.meaning (K.book below.now)).rules → CasesAllowed (mode_count * (K.meaning (K.book below.now)).cases row rule)) }
 {
     for rule in 0..below.rules() {
         if !cases_allowed(below.cases(row, rule) * Mode::COUNT) {
