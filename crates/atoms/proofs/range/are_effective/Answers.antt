@@ -6,12 +6,12 @@ use Rattle.atoms.proofs.Each.{no_literal, each_more, each_all, each_not}
 use Rattle.atoms.proofs.range.are_effective.Goals as goal
 
 pub loop-literal-preserved : goal.loop-literal-preserved
-loop-literal-preserved c = each_more EffectIn c.args.effect.now c.args.effect.now refl c.loop-literal.literal-index no_literal c.loop-literal-test.true c.loop-literal.invariant (c.is-effective.ensures.0 c.if-not-is-effective.false)
+loop-literal-preserved c = each_more EffectIn c.args.effect.now c.args.effect.now refl c.loop-literal.literal-index no_literal c.loop-literal-test.true c.loop-literal.invariant (c.is_effective.ensures.0 c.if-not-is_effective.false)
 
-pub returns-then-not-is-effective : goal.returns-then-not-is-effective
-returns-then-not-is-effective c = (
+pub returns-then-not-is_effective : goal.returns-then-not-is_effective
+returns-then-not-is_effective c = (
   λ e. absurd (false≢true e),
-  λ all. absurd (each_not EffectIn c.args.effect.now c.args.effect.now refl c.loop-literal.literal-index no_literal c.loop-literal-test.true (not_from_Decides c.is-effective.result c.is-effective.ensures c.if-not-is-effective.true) all),
+  λ all. absurd (each_not EffectIn c.args.effect.now c.args.effect.now refl c.loop-literal.literal-index no_literal c.loop-literal-test.true (not_from_Decides c.is_effective.result c.is_effective.ensures c.if-not-is_effective.true) all),
 )
 
 pub returns : goal.returns

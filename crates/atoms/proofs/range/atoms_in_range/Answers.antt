@@ -6,12 +6,12 @@ use Rattle.atoms.proofs.Each.{no_atom, each_more, each_all, each_not}
 use Rattle.atoms.proofs.range.atoms_in_range.Goals as goal
 
 pub loop-atom-preserved : goal.loop-atom-preserved
-loop-atom-preserved c = each_more AtomIn c.args.atoms.now c.args.atoms.now refl c.loop-atom.atom-index no_atom c.loop-atom-test.true c.loop-atom.invariant (c.in_range.ensures.0 c.if-not-in-range.false)
+loop-atom-preserved c = each_more AtomIn c.args.atoms.now c.args.atoms.now refl c.loop-atom.atom-index no_atom c.loop-atom-test.true c.loop-atom.invariant (c.in_range.ensures.0 c.if-not-in_range.false)
 
-pub returns-then-not-in-range : goal.returns-then-not-in-range
-returns-then-not-in-range c = (
+pub returns-then-not-in_range : goal.returns-then-not-in_range
+returns-then-not-in_range c = (
   λ e. absurd (false≢true e),
-  λ all. absurd (each_not AtomIn c.args.atoms.now c.args.atoms.now refl c.loop-atom.atom-index no_atom c.loop-atom-test.true (not_from_Decides c.in_range.result c.in_range.ensures c.if-not-in-range.true) all),
+  λ all. absurd (each_not AtomIn c.args.atoms.now c.args.atoms.now refl c.loop-atom.atom-index no_atom c.loop-atom-test.true (not_from_Decides c.in_range.result c.in_range.ensures c.if-not-in_range.true) all),
 )
 
 pub returns : goal.returns

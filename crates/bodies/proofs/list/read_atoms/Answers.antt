@@ -8,7 +8,7 @@ pub loop-left-preserved : goal.loop-left-preserved
 loop-left-preserved c =
     let left = c.loop-left.left.now in
     let long : 4 ≤ length c.loop-left.left.now = search rules in
-    let read = c.in-ok-read-atom.ensures in (
+    let read = c.in_ok-read_atom.ensures in (
       all_more atom_in left _ c.args.bytes.now long read.0 (take_rest left 4) c.loop-left.invariant.0,
-      each_more atom_of (vec_items c.loop-left.atoms) (vec_items c.push.new.self) left _ c.args.bytes.now c.in-ok-read-atom.field-0 long read.1 c.in-ok-push.ensures.items (take_rest left 4) c.loop-left.invariant.1,
+      each_more atom_of (vec_items c.loop-left.atoms) (vec_items c.push.new.self) left _ c.args.bytes.now c.in_ok-read_atom.field-0 long read.1 c.in_ok-push.ensures.items (take_rest left 4) c.loop-left.invariant.1,
     )

@@ -3,5 +3,5 @@ use Rattle.std.proofs.lemmas.Bool.{and_left}
 use Rattle.bodies.proofs.Numbering.{unknown}
 use Rattle.bodies.proofs.literal.read_literal.Goals as goal
 
-pub returns-in-default : goal.returns-in-default
-returns-in-default c = (refl, and_left _ _ (unknown c.args.number c.in-default.ensures))
+pub returns-in_default : goal.returns-in_default
+returns-in_default c = (refl, and_left _ _ (unknown c.args.number c.in_default.ensures))

@@ -4,8 +4,8 @@ use Rattle.dossier.proofs.reporting.report.Goals as goal
 
 pub returns : goal.returns
 returns c =
-    let v = c.in-ok-verdict.ensures in
+    let v = c.in_ok-verdict.ensures in
     record {
-      reported = reported c.args.bytes.now c.in-ok-verdict.verdict c.args.buffer.now c.write-line.new.buffer c.write-line.result (omega arith) v.law v.bounded c.write-line.ensures;
-      fits = fitting c.args.bytes.now c.in-ok-verdict.verdict c.args.buffer.now c.write-line.new.buffer c.write-line.result (omega arith) v.bounded c.write-line.ensures;
+      reported = reported c.args.bytes.now c.in_ok-verdict.verdict c.args.buffer.now c.write_line.new.buffer c.write_line.result (omega arith) v.law v.bounded c.write_line.ensures;
+      fits = fitting c.args.bytes.now c.in_ok-verdict.verdict c.args.buffer.now c.write_line.new.buffer c.write_line.result (omega arith) v.bounded c.write_line.ensures;
     }

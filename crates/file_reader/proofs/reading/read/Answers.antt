@@ -25,10 +25,10 @@ returns-then-bytes-gt-MAX-BYTES c = record { reads = too_long (omega arith); ran
 pub records-init : goal.records-init
 records-init c = (subst (λ (g : Progress). At c.args.bytes.now 0 g) (sym c.new-draft.ensures) begins, omega arith, refl)
 
-pub returns-in-err-number : goal.returns-in-err-number
-returns-in-err-number c =
-    let p = err_from_is_err_and c.from-residual.result c.from-residual.ensures.1 in
-    let e = c.in-err-number.ensures in
+pub returns-in_err-number : goal.returns-in_err-number
+returns-in_err-number c =
+    let p = err_from_is_err_and c.from_residual.result c.from_residual.ensures.1 in
+    let e = c.in_err-number.ensures in
     let inv = c.records.invariant in
     record {
       ranged = rw p.1 tt;
@@ -39,22 +39,22 @@ returns-in-err-number c =
           (not_from_Decides c.ended.result c.ended.ensures c.records-test.true) e.1);
     }
 
-pub returns-in-default : goal.returns-in-default
-returns-in-default c =
-    let e = c.in-ok-number.ensures in
+pub returns-in_default : goal.returns-in_default
+returns-in_default c =
+    let e = c.in_ok-number.ensures in
     let inv = c.records.invariant in
     record {
       ranged = tt;
       alone = one_verdict c.args.bytes.now;
       encodes = encoding_law c.args.bytes.now (λ _. octets c.args.bytes.now c.type-inv.bytes);
       reads = unknown c.args.bytes.now c.records.rest.now c.records.place (progress_of c.records.draft) inv.0 inv.1 inv.2 (omega arith)
-          (not_from_Decides c.ended.result c.ended.ensures c.records-test.true) e.0 (λ k h. c.in-default.ensures k (h ∙ sym e.1));
+          (not_from_Decides c.ended.result c.ended.ensures c.records-test.true) e.0 (λ k h. c.in_default.ensures k (h ∙ sym e.1));
     }
 
-pub returns-in-err-draft : goal.returns-in-err-draft
-returns-in-err-draft c =
-    let p = err_from_is_err_and c.from-residual-in-err-draft.result c.from-residual-in-err-draft.ensures.1 in
-    let e = c.in-ok-number.ensures in
+pub returns-in_err-draft : goal.returns-in_err-draft
+returns-in_err-draft c =
+    let p = err_from_is_err_and c.from_residual-in_err-draft.result c.from_residual-in_err-draft.ensures.1 in
+    let e = c.in_ok-number.ensures in
     let made = c.new-in-records.ensures in
     let inv = c.records.invariant in
     record {
@@ -64,34 +64,34 @@ returns-in-err-draft c =
       reads = rw (p.1, p.2)
           (refused c.args.bytes.now c.records.rest.now c.records.place (progress_of c.records.draft) inv.0 inv.1 inv.2 (omega arith)
           (not_from_Decides c.ended.result c.ended.ensures c.records-test.true) e.0 c.in-Some.kind (sym e.1 ∙ sym c.in-Some.ensures)
-          c.in-ok-number.body.bytes.now e.3 e.4 c.in-err-draft.field-0.0
-          (answered_of (progress_of c.records.draft) c.new-in-records.result c.in-Some.kind c.in-ok-number.body.bytes.now c.records.place (Err c.in-err-draft.field-0.0) made.0 made.2 (made.1 ∙ e.2) c.in-err-draft.ensures));
+          c.in_ok-number.body.bytes.now e.3 e.4 c.in_err-draft.field-0.0
+          (answered_of (progress_of c.records.draft) c.new-in-records.result c.in-Some.kind c.in_ok-number.body.bytes.now c.records.place (Err c.in_err-draft.field-0.0) made.0 made.2 (made.1 ∙ e.2) c.in_err-draft.ensures));
     }
 
 pub records-smaller : goal.records-smaller
 records-smaller c =
-    let e = c.in-ok-number.ensures in
+    let e = c.in_ok-number.ensures in
     omega (arith, e.0, ap length e.5, length-drop (4 + length_at c.records.rest.now) c.records.rest.now)
 
 pub records-preserved : goal.records-preserved
 records-preserved c =
-    let e = c.in-ok-number.ensures in
+    let e = c.in_ok-number.ensures in
     let made = c.new-in-records.ensures in
     let inv = c.records.invariant in (
       read_on c.args.bytes.now c.records.rest.now c.records.place (progress_of c.records.draft) inv.0 inv.1 inv.2 (omega arith)
           (not_from_Decides c.ended.result c.ended.ensures c.records-test.true) e.0 c.in-Some.kind (sym e.1 ∙ sym c.in-Some.ensures)
-          c.in-ok-number.body.bytes.now e.3 e.4 c.in-ok-draft.draft
-          (answered_of (progress_of c.records.draft) c.new-in-records.result c.in-Some.kind c.in-ok-number.body.bytes.now c.records.place (Ok c.in-ok-draft.draft) made.0 made.2 (made.1 ∙ e.2) c.in-ok-draft.ensures),
+          c.in_ok-number.body.bytes.now e.3 e.4 c.in_ok-draft.draft
+          (answered_of (progress_of c.records.draft) c.new-in-records.result c.in-Some.kind c.in_ok-number.body.bytes.now c.records.place (Ok c.in_ok-draft.draft) made.0 made.2 (made.1 ∙ e.2) c.in_ok-draft.ensures),
       rw e.4 (next_within c.args.bytes.now c.records.rest.now c.records.place (progress_of c.records.draft) inv.0 inv.1 inv.2 (omega arith)
           (not_from_Decides c.ended.result c.ended.ensures c.records-test.true) e.0),
       rw e.4 (next_rest c.args.bytes.now c.records.rest.now c.records.place (progress_of c.records.draft) inv.0 inv.1 inv.2 (omega arith)
-          (not_from_Decides c.ended.result c.ended.ensures c.records-test.true) e.0 c.in-ok-number.after.now e.5),
+          (not_from_Decides c.ended.result c.ended.ensures c.records-test.true) e.0 c.in_ok-number.after.now e.5),
     )
 
-pub returns-then-is-empty : goal.returns-then-is-empty
-returns-then-is-empty c =
+pub returns-then-is_empty : goal.returns-then-is_empty
+returns-then-is_empty c =
     let inv = c.records.invariant in
-    let none : length c.records.rest.now ≡ 0 = eqb-true (length c.records.rest.now) 0 (sym c.is-empty.ensures ∙ c.if-is-empty.true) in
+    let none : length c.records.rest.now ≡ 0 = eqb-true (length c.records.rest.now) 0 (sym c.is_empty.ensures ∙ c.if-is_empty.true) in
     let all : c.records.place ≡ length c.args.bytes.now = omega (arith, none, inv.1, ap length inv.2, length-drop c.records.place c.args.bytes.now) in
     record {
       ranged = in_range (progress_of c.records.draft) (subst (WellAt (progress_of c.records.draft)) (c.ended.ensures.0 c.records-test.false) (well c.args.bytes.now (octets c.args.bytes.now c.type-inv.bytes) inv.0));
@@ -100,8 +100,8 @@ returns-then-is-empty c =
       reads = record { short = omega arith; read = rw all at inv.0; ended = c.ended.ensures.0 c.records-test.false };
     }
 
-pub returns-else-is-empty : goal.returns-else-is-empty
-returns-else-is-empty c =
+pub returns-else-is_empty : goal.returns-else-is_empty
+returns-else-is_empty c =
     let inv = c.records.invariant in
-    let some : length c.records.rest.now ≡ 0 → ⊥ = eqb-false (length c.records.rest.now) 0 (sym c.is-empty.ensures ∙ c.if-is-empty.false) in
+    let some : length c.records.rest.now ≡ 0 → ⊥ = eqb-false (length c.records.rest.now) 0 (sym c.is_empty.ensures ∙ c.if-is_empty.false) in
     record { ranged = tt; alone = one_verdict c.args.bytes.now; encodes = encoding_law c.args.bytes.now (λ _. octets c.args.bytes.now c.type-inv.bytes); reads = left_after_end c.args.bytes.now c.records.rest.now c.records.place (progress_of c.records.draft) inv.0 inv.1 inv.2 (omega arith) (c.ended.ensures.0 c.records-test.false) (omega arith) }

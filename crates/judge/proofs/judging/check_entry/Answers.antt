@@ -3,11 +3,11 @@ use Rattle.std.proofs.lemmas.Bool.{ltb-true, ltb-false}
 use Rattle.judge.proofs.Meeting.{met_none, met_no_row, met_malformed, met_uncovered, met_right}
 use Rattle.judge.proofs.judging.check_entry.Goals as goal
 
-pub returns-in-default : goal.returns-in-default
-returns-in-default g c =
+pub returns-in_default : goal.returns-in_default
+returns-in_default g c =
     let k = g.K.PatternKind in
     met_none (k.meaning (k.book c.args.kind.now)) c.args.case c.args.entries.now c.args.number
-    (ltb-false c.args.number (length c.args.entries.now) (sym c.in-default.ensures.finds.0))
+    (ltb-false c.args.number (length c.args.entries.now) (sym c.in_default.ensures.finds.0))
 
 pub returns-then-entry-rows : goal.returns-then-entry-rows
 returns-then-entry-rows g c =

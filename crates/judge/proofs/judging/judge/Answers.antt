@@ -10,18 +10,18 @@ returns-in-Some g c =
     let k = g.K.PatternKind in
     stands_verdict (k.meaning (k.book c.args.kind.now)) (claims c.args.entries.now) c.in-Some.row c.in-Some.ensures
 
-pub returns-in-err-used : goal.returns-in-err-used
-returns-in-err-used g c =
+pub returns-in_err-used : goal.returns-in_err-used
+returns-in_err-used g c =
     let k = g.K.PatternKind in
-    let p = err_from_is_err_and c.from-residual.result c.from-residual.ensures.1 in
-    rw (p.1, p.2) (walk_verdict (k.meaning (k.book c.args.kind.now)) (claims c.args.entries.now) c.in-err-used.field-0.0 c.in-default.ensures c.in-err-used.ensures)
+    let p = err_from_is_err_and c.from_residual.result c.from_residual.ensures.1 in
+    rw (p.1, p.2) (walk_verdict (k.meaning (k.book c.args.kind.now)) (claims c.args.entries.now) c.in_err-used.field-0.0 c.in_default.ensures c.in_err-used.ensures)
 
 pub returns-then-used-entries : goal.returns-then-used-entries
 returns-then-used-entries g c =
     let k = g.K.PatternKind in
-    left_over_verdict (k.meaning (k.book c.args.kind.now)) (claims c.args.entries.now) c.in-ok-used.used c.in-default.ensures c.in-ok-used.ensures (simp length-map (omega arith))
+    left_over_verdict (k.meaning (k.book c.args.kind.now)) (claims c.args.entries.now) c.in_ok-used.used c.in_default.ensures c.in_ok-used.ensures (simp length-map (omega arith))
 
 pub returns : goal.returns
 returns g c =
     let k = g.K.PatternKind in
-    covered_verdict (k.meaning (k.book c.args.kind.now)) (claims c.args.entries.now) c.in-ok-used.used c.in-default.ensures c.in-ok-used.ensures (simp length-map (omega arith))
+    covered_verdict (k.meaning (k.book c.args.kind.now)) (claims c.args.entries.now) c.in_ok-used.used c.in_default.ensures c.in_ok-used.ensures (simp length-map (omega arith))

@@ -9,14 +9,14 @@ loop-literal-preserved c =
     let names = c.args.names.now in
     let all = chosen names c.args.literals.now in
     search_more (λ k. follows all (denial (under (λ x. get_or names x 0) k))) (λ ls. any (λ x. follows all (denial x)) (chosen names ls)) refl (λ _ _. refl) c.args.literals.now c.loop-literal.literal-index c.loop-literal.invariant _ c.loop-literal-test.true
-    (ap (follows all) (ap denial (sym c.under.ensures) ∙ sym c.denial.ensures) ∙ sym c.follows_under.ensures ∙ c.if-follows-under.false)
+    (ap (follows all) (ap denial (sym c.under.ensures) ∙ sym c.denial.ensures) ∙ sym c.follows_under.ensures ∙ c.if-follows_under.false)
 
-pub returns-then-follows-under : goal.returns-then-follows-under
-returns-then-follows-under c =
+pub returns-then-follows_under : goal.returns-then-follows_under
+returns-then-follows_under c =
     let names = c.args.names.now in
     let all = chosen names c.args.literals.now in
     search_found (λ k. follows all (denial (under (λ x. get_or names x 0) k))) (λ ls. any (λ x. follows all (denial x)) (chosen names ls)) refl (λ _ _. refl) c.args.literals.now c.loop-literal.literal-index c.loop-literal.invariant _ c.loop-literal-test.true
-    (ap (follows all) (ap denial (sym c.under.ensures) ∙ sym c.denial.ensures) ∙ sym c.follows_under.ensures ∙ c.if-follows-under.true)
+    (ap (follows all) (ap denial (sym c.under.ensures) ∙ sym c.denial.ensures) ∙ sym c.follows_under.ensures ∙ c.if-follows_under.true)
 
 pub returns : goal.returns
 returns c =

@@ -8,4 +8,4 @@ pub returns : goal.returns
 returns c =
     let rule = c.args.rule.now in
     let row = c.args.row.now in
-    c.earlier-under.ensures ∙ ap (literals_before (transition_of rule) (pattern_of row)) (first_names c.write-digits.new.names (row.variables + rule.variables) rule.variables c.args.number c.requires.rule_in.variables_in c.write-digits.ensures)
+    c.earlier_under.ensures ∙ ap (literals_before (transition_of rule) (pattern_of row)) (first_names c.write_digits.new.names (row.variables + rule.variables) rule.variables c.args.number c.requires.rule_in.variables_in c.write_digits.ensures)

@@ -9,13 +9,13 @@ pub loop-literal-preserved : goal.loop-literal-preserved
 loop-literal-preserved c =
     let effect = chosen c.args.names.now c.args.effect.now in
     search_more (made_false effect) (any (made_false effect)) refl (λ _ _. refl) c.args.literals.now c.loop-literal.literal-index c.loop-literal.invariant _ c.loop-literal-test.true
-    (ap (follows effect) (sym c.denial.ensures) ∙ sym c.if-follows-under.ensures)
+    (ap (follows effect) (sym c.denial.ensures) ∙ sym c.if-follows_under.ensures)
 
-pub returns-then-follows-under : goal.returns-then-follows-under
-returns-then-follows-under c =
+pub returns-then-follows_under : goal.returns-then-follows_under
+returns-then-follows_under c =
     let effect = chosen c.args.names.now c.args.effect.now in
     search_found (made_false effect) (any (made_false effect)) refl (λ _ _. refl) c.args.literals.now c.loop-literal.literal-index c.loop-literal.invariant _ c.loop-literal-test.true
-    (ap (follows effect) (sym c.denial.ensures) ∙ sym c.if-follows-under.ensures)
+    (ap (follows effect) (sym c.denial.ensures) ∙ sym c.if-follows_under.ensures)
 
 pub returns : goal.returns
 returns c =

@@ -7,15 +7,15 @@ pub loop-number-preserved : goal.loop-number-preserved
 loop-number-preserved c =
     let bytes = c.args.body.bytes.now in
     let i = c.loop-number.number-index in
-    let mode = c.in-ok-read-mode.ensures in (
+    let mode = c.in_ok-read_mode.ensures in (
       mode_ranged bytes i c.loop-number-test.true mode.0 c.loop-number.invariant.0,
-      mode_pushed bytes i c.loop-number-test.true (vec_items c.loop-number.modes) (vec_items c.push.new.self) c.in-ok-read-mode.field-0 mode.1 c.in-ok-push.ensures.items c.loop-number.invariant.1,
+      mode_pushed bytes i c.loop-number-test.true (vec_items c.loop-number.modes) (vec_items c.push.new.self) c.in_ok-read_mode.field-0 mode.1 c.in_ok-push.ensures.items c.loop-number.invariant.1,
     )
 
-pub returns-in-err-read-mode : goal.returns-in-err-read-mode
-returns-in-err-read-mode c =
-    let p = err_from_is_err_and c.from-residual.result c.from-residual.ensures.1 in
-    let fault = c.in-err-read-mode.ensures in
+pub returns-in_err-read_mode : goal.returns-in_err-read_mode
+returns-in_err-read_mode c =
+    let p = err_from_is_err_and c.from_residual.result c.from_residual.ensures.1 in
+    let fault = c.in_err-read_mode.ensures in
     rw (p.1, p.2) (fault.0, mode_unranged c.args.body.bytes.now c.loop-number.number-index c.loop-number-test.true fault.1 c.loop-number.invariant.0)
 
 pub returns : goal.returns

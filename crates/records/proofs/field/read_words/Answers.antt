@@ -6,7 +6,7 @@ use Rattle.records.proofs.field.read_words.Goals as goal
 pub loop-left-preserved : goal.loop-left-preserved
 loop-left-preserved c =
     let long : 2 ≤ length c.loop-left.left.now = search rules in
-    words_more (vec_items c.loop-left.numbers) (vec_items c.push.new.self) c.loop-left.left.now _ c.args.bytes.now (c.from.result + 256 * c.from-in-len2-up.result) long (omega arith) c.in-ok-push.ensures.items (take_rest c.loop-left.left.now 2) c.loop-left.invariant
+    words_more (vec_items c.loop-left.numbers) (vec_items c.push.new.self) c.loop-left.left.now _ c.args.bytes.now (c.from.result + 256 * c.from-in-len2-up.result) long (omega arith) c.in_ok-push.ensures.items (take_rest c.loop-left.left.now 2) c.loop-left.invariant
 
 pub returns : goal.returns
 returns c =

@@ -9,13 +9,13 @@ use Rattle.atoms.proofs.Each.{each_more, each_all, each_not}
 use Rattle.atoms.proofs.book.Book.rows_in_range.Goals as goal
 
 pub loop-row-preserved : goal.loop-row-preserved
-loop-row-preserved c = each_more (λ x. RowIn (pattern_of x)) c.deref-row-items.result.now (vec_items c.args.self.now.rows) c.deref-row-items.ensures.value c.loop-row.row-index c.row-item.result c.loop-row-test.true c.loop-row.invariant (subst (λ x. RowIn (pattern_of x)) c.row-item.is (c.in_range.ensures.0 c.if-not-in-range.false))
+loop-row-preserved c = each_more (λ x. RowIn (pattern_of x)) c.deref-row-items.result.now (vec_items c.args.self.now.rows) c.deref-row-items.ensures.value c.loop-row.row-index c.row-item.result c.loop-row-test.true c.loop-row.invariant (subst (λ x. RowIn (pattern_of x)) c.row-item.is (c.in_range.ensures.0 c.if-not-in_range.false))
 
-pub returns-then-not-in-range : goal.returns-then-not-in-range
-returns-then-not-in-range c = (
+pub returns-then-not-in_range : goal.returns-then-not-in_range
+returns-then-not-in_range c = (
   λ e. absurd (false≢true e),
   λ all. absurd (each_not (λ x. RowIn (pattern_of x)) c.deref-row-items.result.now (vec_items c.args.self.now.rows) c.deref-row-items.ensures.value c.loop-row.row-index c.row-item.result c.loop-row-test.true
-      (λ x. not_from_Decides c.in_range.result c.in_range.ensures c.if-not-in-range.true (subst (λ x. RowIn (pattern_of x)) (sym c.row-item.is) x))
+      (λ x. not_from_Decides c.in_range.result c.in_range.ensures c.if-not-in_range.true (subst (λ x. RowIn (pattern_of x)) (sym c.row-item.is) x))
       (all_unmapped RowIn pattern_of (vec_items c.args.self.now.rows) all)),
 )
 

@@ -9,13 +9,13 @@ use Rattle.atoms.proofs.Each.{each_more, each_all, each_not}
 use Rattle.atoms.proofs.book.Book.rules_in_range.Goals as goal
 
 pub loop-rule-preserved : goal.loop-rule-preserved
-loop-rule-preserved c = each_more (λ x. RuleIn (transition_of x)) c.deref-rule-items.result.now (vec_items c.args.self.now.rules) c.deref-rule-items.ensures.value c.loop-rule.rule-index c.rule-item.result c.loop-rule-test.true c.loop-rule.invariant (subst (λ x. RuleIn (transition_of x)) c.rule-item.is (c.in_range.ensures.0 c.if-not-in-range.false))
+loop-rule-preserved c = each_more (λ x. RuleIn (transition_of x)) c.deref-rule-items.result.now (vec_items c.args.self.now.rules) c.deref-rule-items.ensures.value c.loop-rule.rule-index c.rule-item.result c.loop-rule-test.true c.loop-rule.invariant (subst (λ x. RuleIn (transition_of x)) c.rule-item.is (c.in_range.ensures.0 c.if-not-in_range.false))
 
-pub returns-then-not-in-range : goal.returns-then-not-in-range
-returns-then-not-in-range c = (
+pub returns-then-not-in_range : goal.returns-then-not-in_range
+returns-then-not-in_range c = (
   λ e. absurd (false≢true e),
   λ all. absurd (each_not (λ x. RuleIn (transition_of x)) c.deref-rule-items.result.now (vec_items c.args.self.now.rules) c.deref-rule-items.ensures.value c.loop-rule.rule-index c.rule-item.result c.loop-rule-test.true
-      (λ x. not_from_Decides c.in_range.result c.in_range.ensures c.if-not-in-range.true (subst (λ x. RuleIn (transition_of x)) (sym c.rule-item.is) x))
+      (λ x. not_from_Decides c.in_range.result c.in_range.ensures c.if-not-in_range.true (subst (λ x. RuleIn (transition_of x)) (sym c.rule-item.is) x))
       (all_unmapped RuleIn transition_of (vec_items c.args.self.now.rules) all)),
 )
 

@@ -10,18 +10,18 @@ use Rattle.atoms.proofs.Setting.{all_held}
 use Rattle.atoms.proofs.Firing.{effect_gains, refusing, firing}
 use Rattle.atoms.proofs.book.Rule.fire.Goals as goal
 
-pub returns-in-err-check : goal.returns-in-err-check
-returns-in-err-check c =
-    let p = err_from_is_err_and c.from-residual.result c.from-residual.ensures.1 in
-    rw (p.1, p.2) (refusing (transition_of c.args.self.now) (state_of c.args.cells.now) c.args.choice.now c.in-err-check.field-0.0 c.in-err-check.ensures)
+pub returns-in_err-check : goal.returns-in_err-check
+returns-in_err-check c =
+    let p = err_from_is_err_and c.from_residual.result c.from_residual.ensures.1 in
+    rw (p.1, p.2) (refusing (transition_of c.args.self.now) (state_of c.args.cells.now) c.args.choice.now c.in_err-check.field-0.0 c.in_err-check.ensures)
 
 pub change-requires : goal.change-requires
 change-requires c =
     subst (λ (ls : List Literal). All GainIn (chosen c.args.choice.now ls)) (sym c.deref.ensures.value)
-    (effect_gains (transition_of c.args.self.now) c.args.choice.now c.requires c.in-ok-check.ensures.0)
+    (effect_gains (transition_of c.args.self.now) c.args.choice.now c.requires c.in_ok-check.ensures.0)
 
 pub returns : goal.returns
 returns c =
-    firing (transition_of c.args.self.now) (state_of c.args.cells.now) c.args.choice.now (state_of c.change.new.self) c.in-ok-check.ensures
+    firing (transition_of c.args.self.now) (state_of c.args.cells.now) c.args.choice.now (state_of c.change.new.self) c.in_ok-check.ensures
     (c.change.ensures ∙ ap (λ (ls : List Literal). after (chosen c.args.choice.now ls) (state_of c.args.cells.now)) c.deref.ensures.value)
     (all_held c.change.new.self)

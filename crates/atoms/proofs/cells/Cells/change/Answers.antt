@@ -4,4 +4,4 @@ use Rattle.atoms.specs.Cells.{lost}
 use Rattle.atoms.proofs.cells.Cells.change.Goals as goal
 
 pub returns : goal.returns
-returns c = c.lose-all.ensures ∙ ap (lost (chosen c.args.choice.now c.args.effect.now)) c.gain-all.ensures
+returns c = c.lose_all.ensures ∙ ap (lost (chosen c.args.choice.now c.args.effect.now)) c.gain_all.ensures

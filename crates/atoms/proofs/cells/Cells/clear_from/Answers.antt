@@ -4,7 +4,7 @@ use Rattle.atoms.proofs.Changing.{from_more, from_all}
 use Rattle.atoms.proofs.cells.Cells.clear_from.Goals as goal
 
 pub loop-z-preserved : goal.loop-z-preserved
-loop-z-preserved c = from_more (state_of c.args.self.now) (state_of c.loop-z.self) (state_of c.clear-binary.new.self) c.args.relation c.args.object c.loop-z.z c.clear-binary.ensures c.loop-z.invariant
+loop-z-preserved c = from_more (state_of c.args.self.now) (state_of c.loop-z.self) (state_of c.clear_binary.new.self) c.args.relation c.args.object c.loop-z.z c.clear_binary.ensures c.loop-z.invariant
 
 pub returns : goal.returns
 returns c = from_all c.args.self.now (state_of c.loop-z.self) c.args.relation c.args.object c.loop-z.z (omega arith) c.loop-z.invariant

@@ -2,7 +2,7 @@ use Rattle.atoms.specs.Data.{book_of, pattern_of}
 use Rattle.atoms.proofs.Ranged.{row_ranged}
 use Rattle.atoms.proofs.model.Atoms.look.Goals as goal
 
-pub stands-in-requires : goal.stands-in-requires
-stands-in-requires c =
+pub stands_in-requires : goal.stands_in-requires
+stands_in-requires c =
     let found = c.in-Some.ensures in
     row_ranged (book_of c.args.self.now.book) c.args.self.now.in_range c.args.row (pattern_of c.in-Some.row.now) found.0 found.1

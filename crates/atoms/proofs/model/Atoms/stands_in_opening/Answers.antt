@@ -8,7 +8,7 @@ use Rattle.atoms.proofs.model.Atoms.stands_in_opening.Goals as goal
 pub of-requires : goal.of-requires
 of-requires c = subst (All AtomIn) (sym c.deref.ensures.value) (opening_ranged (book_of c.args.self.now.book) c.args.self.now.in_range)
 
-pub stands-in-requires : goal.stands-in-requires
-stands-in-requires c =
+pub stands_in-requires : goal.stands_in-requires
+stands_in-requires c =
     let found = c.in-Some.ensures in
     row_ranged (book_of c.args.self.now.book) c.args.self.now.in_range c.args.row (pattern_of c.in-Some.row.now) found.0 found.1

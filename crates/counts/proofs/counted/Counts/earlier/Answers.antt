@@ -6,7 +6,7 @@ use Rattle.counts.proofs.counted.Counts.earlier.Goals as goal
 
 pub returns : goal.returns
 returns c =
-    let found = c.in-ok-row in
+    let found = c.in_ok-row in
     let case = found.ensures in
     record {
       value = ap (λ (n : ℕ). Some n) c.earlier.ensures ∙ sym (earlier_there (book_of c.args.self.now.net) c.args.case case.0 (least_of found.row.now) (transition_of found.rule.now) case.1 case.2 c.args.place);

@@ -15,6 +15,6 @@ returns c =
       same = refl;
       good = tt;
       fired = rw (with_items_is marking left long)
-          (marking_fired (book_of c.args.self.now.net) c.args.rule c.args.choice.now (transition_of c.in-Some.rule.now) found.0 (eqb-true _ 0 (sym c.is-empty.ensures ∙ c.if-not-is-empty.false)) found.1
-          (vec_items marking) c.deref-mut.result.now left c.fire.result c.deref-mut.ensures.value c.fire.ensures.checked c.fire.ensures.moved c.fire.ensures.stays);
+          (marking_fired (book_of c.args.self.now.net) c.args.rule c.args.choice.now (transition_of c.in-Some.rule.now) found.0 (eqb-true _ 0 (sym c.is_empty.ensures ∙ c.if-not-is_empty.false)) found.1
+          (vec_items marking) c.deref_mut.result.now left c.fire.result c.deref_mut.ensures.value c.fire.ensures.checked c.fire.ensures.moved c.fire.ensures.stays);
     }

@@ -2,8 +2,8 @@ use Rattle.std.proofs.Common.{◌≡◌, ◌^◌, ◌<◌, ◌≢◌, length, ar
 use Rattle.counts.specs.Net.{tally}
 use Rattle.counts.proofs.net.Rule.apply.Goals as goal
 
-pub overflow-cast-count : goal.overflow-cast-count
-overflow-cast-count c =
+pub overflow_cast-count : goal.overflow_cast-count
+overflow_cast-count c =
     let place = c.loop-place.place in
     let same : tally c.loop-place.marking place ≡ tally c.args.marking.now place = c.loop-place.invariant.1 place (omega arith) in
     let h : c.leaves.result < 2 ^ 16 = omega (arith, c.requires place) in

@@ -6,7 +6,7 @@ use Rattle.counts.proofs.net.Rule.check.Goals as goal
 pub returns-then-held : goal.returns-then-held
 returns-then-held c = (
   within_all (vec_items c.args.self.now.takes) _ (λ place h. c.loop-place.invariant.0 place (omega arith)),
-  held_all (vec_items c.args.self.now.takes) (vec_items c.args.self.now.gives) c.args.marking.now c.requires.gives-in (λ place h. c.loop-place.invariant.1.0 c.if-held.true place (omega arith)),
+  held_all (vec_items c.args.self.now.takes) (vec_items c.args.self.now.gives) c.args.marking.now c.requires.gives_in (λ place h. c.loop-place.invariant.1.0 c.if-held.true place (omega arith)),
 )
 
 pub returns-else-held : goal.returns-else-held

@@ -4,7 +4,7 @@ use Rattle.counts.proofs.net.Rule.fire.Goals as goal
 
 pub returns : goal.returns
 returns c = record {
-  checked = c.in-ok-check.ensures;
-  moved = applied (vec_items c.args.self.now.takes) (vec_items c.args.self.now.gives) c.args.marking.now c.apply.new.marking (omega arith) c.requires.gives-in c.apply.ensures;
+  checked = c.in_ok-check.ensures;
+  moved = applied (vec_items c.args.self.now.takes) (vec_items c.args.self.now.gives) c.args.marking.now c.apply.new.marking (omega arith) c.requires.gives_in c.apply.ensures;
   stays = tt;
 }

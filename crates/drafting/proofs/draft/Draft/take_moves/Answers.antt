@@ -6,5 +6,5 @@ use Rattle.drafting.proofs.draft.Draft.take_moves.Goals as goal
 
 pub returns : goal.returns
 returns c =
-    let read = c.in-ok-moves.ensures in
-    (read.0, layer_added (progress_of c.args.self) c.args.body.bytes.now (layers_of c.with-moves-layers.result) (rw read.1 at c.with-moves-layers.ensures))
+    let read = c.in_ok-moves.ensures in
+    (read.0, layer_added (progress_of c.args.self) c.args.body.bytes.now (layers_of c.with_moves-layers.result) (rw read.1 at c.with_moves-layers.ensures))

@@ -1,10 +1,10 @@
 use Rattle.drafting.proofs.Pushing.{counted_row_pushed, atoms_row_pushed}
 use Rattle.drafting.proofs.draft.DraftBook.with_row.Goals as goal
 
-pub returns-in-ok-push : goal.returns-in-ok-push
-returns-in-ok-push c =
-    counted_row_pushed c.args.self c.in-Counts.net c.in-Counts.is c.args.places c.args.body.bytes.now c.push.new.self (record { least = c.in-ok-read-words.field-0 }) c.in-ok-push.ensures.items c.in-ok-read-words.ensures
+pub returns-in_ok-push : goal.returns-in_ok-push
+returns-in_ok-push c =
+    counted_row_pushed c.args.self c.in-Counts.net c.in-Counts.is c.args.places c.args.body.bytes.now c.push.new.self (record { least = c.in_ok-read_words.field-0 }) c.in_ok-push.ensures.items c.in_ok-read_words.ensures
 
-pub returns-in-ok-push-2 : goal.returns-in-ok-push-2
-returns-in-ok-push-2 c =
-    atoms_row_pushed c.args.self c.in-Atoms.book c.in-Atoms.is c.args.places c.args.body.bytes.now c.push-in-Atoms.new.self c.in-ok-read-row.field-0 c.in-ok-push-2.ensures.items c.in-ok-read-row.ensures
+pub returns-in_ok-push-2 : goal.returns-in_ok-push-2
+returns-in_ok-push-2 c =
+    atoms_row_pushed c.args.self c.in-Atoms.book c.in-Atoms.is c.args.places c.args.body.bytes.now c.push-in-Atoms.new.self c.in_ok-read_row.field-0 c.in_ok-push-2.ensures.items c.in_ok-read_row.ensures

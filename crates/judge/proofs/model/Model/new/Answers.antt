@@ -11,7 +11,7 @@ returns-in-Ok g c =
       law = law (k.meaning (k.book c.args.kind)) (g.met.K.PatternKind.duties c.args.kind c.requires) (claims c.args.entries.now) (Ok tt) c.in-Ok.ensures;
       opens = (c.restart.ensures.good, c.restart.ensures.same, c.restart.ensures.back);
       guarded = rw c.restart.ensures.back (opening_guarded (k.meaning (k.book c.args.kind)) (g.met.K.PatternKind.duties c.args.kind c.requires) (claims c.args.entries.now) c.in-Ok.ensures.judged);
-      hands-back = tt;
+      hands_back = tt;
     }
 
 pub returns-in-Err : goal.returns-in-Err
@@ -21,5 +21,5 @@ returns-in-Err g c =
       law = law (k.meaning (k.book c.args.kind)) (g.met.K.PatternKind.duties c.args.kind c.requires) (claims c.args.entries.now) (Err c.in-Err.refusal) c.in-Err.ensures;
       opens = tt;
       guarded = tt;
-      hands-back = refl;
+      hands_back = refl;
     }

@@ -5,7 +5,7 @@ use Rattle.judge.proofs.model.Model.play.Goals as goal
 
 pub loop-call-init : goal.loop-call-init
 loop-call-init g c =
-    let room = c.in-ok-answers.ensures.made.1 in
+    let room = c.in_ok-answers.ensures.made.1 in
     (refl, c.requires, room.0, room.1, none)
 
 pub loop-call-preserved : goal.loop-call-preserved
@@ -15,9 +15,9 @@ loop-call-preserved g c =
     let made : length (vec_items c.loop-call.answers) ≡ c.loop-call.call-index = sym c.loop-call.answers.ok.0 ∙ inv.2 in (
       c.perform.ensures.same ∙ inv.0,
       c.perform.ensures.good,
-      omega (arith, c.push-reserved.ensures.len, inv.2),
-      omega (arith, c.push-reserved.ensures.capacity, inv.3),
-      rw c.push-reserved.ensures.items
+      omega (arith, c.push_reserved.ensures.len, inv.2),
+      omega (arith, c.push_reserved.ensures.capacity, inv.3),
+      rw c.push_reserved.ensures.items
           (played_more k.meaning (k.book c.args.self.now.kind) (k.book c.loop-call.self.kind) c.args.calls.now (vec_items c.loop-call.answers) c.loop-call.call-index c.call-item.result c.perform.result
           (k.state c.args.self.now.kind) (k.state c.loop-call.self.kind) (k.state c.perform.new.self.kind) inv.0 c.loop-call-test.true made inv.4 (rw c.call-item.is at c.perform.ensures.called)),
     )

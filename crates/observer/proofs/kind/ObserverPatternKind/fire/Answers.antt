@@ -5,13 +5,13 @@ use Rattle.observer.specs.Kind.{book_of}
 use Rattle.observer.proofs.Refusing.{refused_above}
 use Rattle.observer.proofs.kind.ObserverPatternKind.fire.Goals as goal
 
-pub returns-in-err-fire : goal.returns-in-err-fire
-returns-in-err-fire g c =
+pub returns-in_err-fire : goal.returns-in_err-fire
+returns-in_err-fire g c =
     let k = g.K.PatternKind in
     let self = c.args.self.now in
-    let p = err_from_is_err_and c.from-residual.result c.from-residual.ensures.1 in
+    let p = err_from_is_err_and c.from_residual.result c.from_residual.ensures.1 in
     record {
       same = ap (λ (x : k.Book). record { below = x; moves = vec_items self.moves; rows = vec_items self.rows }) c.fire.ensures.same;
       good = (c.fire.ensures.good, subst (λ (x : k.Book). InRange (k.meaning x) (record { below = x; moves = vec_items self.moves; rows = vec_items self.rows })) (sym c.fire.ensures.same) c.requires.1);
-      fired = rw (p.1, p.2) (refused_above (k.meaning (k.book self.below)) (book_of k.book self) (k.state self.below) (k.state c.fire.new.self) self.mode c.args.rule c.args.choice.now c.in-err-fire.field-0.0 c.in-err-fire.ensures.fired);
+      fired = rw (p.1, p.2) (refused_above (k.meaning (k.book self.below)) (book_of k.book self) (k.state self.below) (k.state c.fire.new.self) self.mode c.args.rule c.args.choice.now c.in_err-fire.field-0.0 c.in_err-fire.ensures.fired);
     }

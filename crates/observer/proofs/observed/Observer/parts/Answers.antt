@@ -3,13 +3,13 @@ use Rattle.std.proofs.lemmas.Nat.{div_below}
 use Rattle.observer.specs.Mode.{mode_count}
 use Rattle.observer.proofs.observed.Observer.parts.Goals as goal
 
-pub overflow-cast-case : goal.overflow-cast-case
-overflow-cast-case g c =
+pub overflow_cast-case : goal.overflow_cast-case
+overflow_cast-case g c =
     let few : c.args.case.number / c.cases-count.result < mode_count = div_below c.args.case.number c.cases-count.result mode_count (omega arith) (omega arith) in
     let h : c.args.case.number / c.cases-count.result < 2 ^ 8 = omega arith in
     omega arith
 
-pub returns-in-err-before : goal.returns-in-err-before
-returns-in-err-before g c =
+pub returns-in_err-before : goal.returns-in_err-before
+returns-in_err-before g c =
     let few : c.args.case.number / c.cases-count.result < mode_count = div_below c.args.case.number c.cases-count.result mode_count (omega arith) (omega arith) in
-    absurd (omega (arith, c.in-err-before.ensures))
+    absurd (omega (arith, c.in_err-before.ensures))

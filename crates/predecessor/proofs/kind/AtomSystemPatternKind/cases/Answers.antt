@@ -3,8 +3,8 @@ use Rattle.atoms.proofs.Ranged.{rule_ranged, row_ranged}
 use Rattle.predecessor.specs.System.{system_book}
 use Rattle.predecessor.proofs.kind.AtomSystemPatternKind.cases.Goals as goal
 
-pub case-count-requires : goal.case-count-requires
-case-count-requires c =
+pub case_count-requires : goal.case_count-requires
+case_count-requires c =
     let b = system_book c.args.self.now in
     let carried = c.args.self.now.atoms.in_range in
     let found = c.in-Some-Some in

@@ -9,8 +9,8 @@ use Rattle.predecessor.proofs.system.AtomSystem.earlier.Goals as goal
 pub returns : goal.returns
 returns c =
     let b = system_book c.args.self.now in
-    let found = c.in-ok-rule.ensures in
+    let found = c.in_ok-rule.ensures in
     record {
-      value = (found.there, c.earlier.ensures ∙ earlier_there b c.args.case (transition_of c.in-ok-rule.rule.now) (pattern_of c.in-ok-rule.row.now) found);
+      value = (found.there, c.earlier.ensures ∙ earlier_there b c.args.case (transition_of c.in_ok-rule.rule.now) (pattern_of c.in_ok-rule.row.now) found);
       exact = exact_of b (in_range b c.args.self.now.atoms.in_range) c.args.case;
     }

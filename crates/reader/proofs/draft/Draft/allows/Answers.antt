@@ -8,8 +8,8 @@ is_some_cond : (b : Bool) (s : Section) → is_some (cond {A = Option Section} b
 is_some_cond true s = refl
 is_some_cond false s = refl
 
-pub returns-then-is-some : goal.returns-then-is-some
-returns-then-is-some c =
+pub returns-then-is_some : goal.returns-then-is_some
+returns-then-is_some c =
     let here : Bool = among c.args.self.now.section (comes_after c.args.kind) in
-    let may : here ≡ true = sym (is_some_cond here (leads_to c.args.kind)) ∙ sym (ap is_some c.next.ensures) ∙ sym c.is-some.ensures ∙ c.if-is-some.true in
-    c.has-room.ensures ∙ sym (ap (λ (b : Bool). b && room (progress_of c.args.self.now) c.args.kind) may)
+    let may : here ≡ true = sym (is_some_cond here (leads_to c.args.kind)) ∙ sym (ap is_some c.next.ensures) ∙ sym c.is_some.ensures ∙ c.if-is_some.true in
+    c.has_room.ensures ∙ sym (ap (λ (b : Bool). b && room (progress_of c.args.self.now) c.args.kind) may)
