@@ -2,7 +2,7 @@
 use Rattle.std.proofs.Common.{◌≡◌, ℕ, ◌<◌, List, length, get_or, Ok, Err, refl, inl, inr, arith}
 use Rattle.std.specs.List.{AllByRecursion as All}
 use Rattle.std.proofs.lemmas.List.{get_or_past}
-use Rattle.std.proofs.ByRecursion.{All-get_or, AllWeaker, All-map}
+use Rattle.std.proofs.ByRecursion.{All-get_or, All-weaker, All-map}
 use Rattle.std.proofs.lemmas.Bool.{cases_lt}
 use Rattle.pattern.specs.declared.FireRefusal.{FireRefusal}
 use Rattle.pattern.specs.declared.FireRefusal.TheVariants.{NoSuchRule, ChoiceNotHeld, ConditionNotMet, EffectContradictory, BeyondModel}
@@ -31,7 +31,7 @@ fact_gains n f held (Into b x) h = (h.0, held x)
 pub effect_gains : (r : Transition) (choice : List ℕ) → RuleIn r → ChoiceHeld r choice → All GainIn (chosen choice r.effect)
 effect_gains r choice ranged held =
     All-map GainIn (under (λ x. get_or choice x 0)) r.effect
-    (AllWeaker (LiteralIn r.variables) (λ l. GainIn (under (λ x. get_or choice x 0) l)) (λ l h _. fact_gains r.variables (λ x. get_or choice x 0) (object_at choice held.1) l.fact h) r.effect ranged.effect_in)
+    (All-weaker (LiteralIn r.variables) (λ l. GainIn (under (λ x. get_or choice x 0) l)) (λ l h _. fact_gains r.variables (λ x. get_or choice x 0) (object_at choice held.1) l.fact h) r.effect ranged.effect_in)
 
 module _ (r : Transition) (s : State) (choice : List ℕ) where
   pub refusing : (e : FireRefusal) → Checked r s choice (Err e) → Fires r s choice (Err e) s

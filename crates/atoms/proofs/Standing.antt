@@ -1,7 +1,7 @@
 -- Standing over all whole numbers, and the placements that are tried.
 use Rattle.std.proofs.Common.{◌≡◌, ℕ, ◌+◌, ◌<◌, ◌≤◌, Bool, true, false, ltb, ◌⊎◌, List, [], ◌∷◌, Decides, sym, refl, ap, ◌∙◌, inl, inr, arith}
 use Rattle.std.specs.List.{AllByRecursion as All}
-use Rattle.std.proofs.ByRecursion.{AllWeaker, All-map}
+use Rattle.std.proofs.ByRecursion.{All-weaker, All-map}
 use Rattle.std.proofs.lemmas.Bool.{cases_lt, cases_order, cond-true, cond-false, lt-ltb, le-ltb, false≢true}
 use Rattle.literals.proofs.Listing.{all_unmapped}
 use Rattle.literals.specs.declared.Fact.{Fact}
@@ -86,7 +86,7 @@ module _ (p : Pattern) (s : State) where
   from_different : (f : ℕ → ℕ) → Different p.variables f → All (λ l. Holds s (under f l)) p.literals → Placed p s p.variables f
   from_different f different all i h = (
     λ j g e. let same : j ≡ i = different j i (omega arith) h e in omega arith,
-    AllWeaker (λ l. Holds s (under f l)) (MetAt s f i) (λ l met _. met) p.literals all,
+    All-weaker (λ l. Holds s (under f l)) (MetAt s f i) (λ l met _. met) p.literals all,
   )
 
   to_different : (f : ℕ → ℕ) → Placed p s p.variables f → Different p.variables f
@@ -117,7 +117,7 @@ module _ (p : Pattern) (s : State) where
 
   stands_tried : Held s → (w : StandsIn p s) → Placed p s p.variables (own w.place)
   stands_tried held w = from_different (own w.place) (own_different w.place p.variables w.different)
-      (AllWeaker (λ l. Holds s (under w.place l)) (λ l. Holds s (under (own w.place) l)) (holds_alike s held w.place (own w.place) (own_alike w.place)) p.literals (all_unmapped (Holds s) (under w.place) p.literals w.all_hold))
+      (All-weaker (λ l. Holds s (under w.place l)) (λ l. Holds s (under (own w.place) l)) (holds_alike s held w.place (own w.place) (own_alike w.place)) p.literals (all_unmapped (Holds s) (under w.place) p.literals w.all_hold))
 
   -- Placing from the start decides whether the pattern stands.
   pub stands_decided : RowIn p → Held s → (before left : List ℕ) (r : Bool) → Outcome p s 0 before left r → Decides r (StandsIn p s)

@@ -1,7 +1,7 @@
 -- Placing one variable more.
 use Rattle.std.proofs.Common.{◌≡◌, ℕ, ◌+◌, ◌<◌, ◌≤◌, List, length, set, sym, ap, ◌∙◌, subst, ap₂, arith, below_more}
 use Rattle.std.proofs.lemmas.List.{get_or-set_same, get_or-set_other}
-use Rattle.std.proofs.ByRecursion.{AllWeaker}
+use Rattle.std.proofs.ByRecursion.{All-weaker}
 use Rattle.literals.specs.declared.Fact.{Fact}
 use Rattle.literals.specs.declared.Fact.TheVariants.{Unary, Binary, From, Into}
 use Rattle.literals.specs.declared.Literal.{Literal}
@@ -39,7 +39,7 @@ module _ (p : Pattern) (s : State) where
   pub fits_same : (i : ℕ) (f g : ℕ → ℕ) → ((j : ℕ) → j ≤ i → f j ≡ g j) → FitsAt p s f i → FitsAt p s g i
   fits_same i f g same fits = (
     λ j h q. fits.0 j h (same j (omega arith) ∙ q ∙ sym (same i (omega arith))),
-    AllWeaker (MetAt s f i) (MetAt s g i) (λ l met e. subst (Holds s) (under_same f g l (λ j h. same j (omega (arith, e)))) (met e)) p.literals fits.1,
+    All-weaker (MetAt s f i) (MetAt s g i) (λ l met e. subst (Holds s) (under_same f g l (λ j h. same j (omega (arith, e)))) (met e)) p.literals fits.1,
   )
 
   pub placed_same : (before xs : List ℕ) (k : ℕ) → Extends k before (at xs) → Placed p s k (at before) → Placed p s k (at xs)

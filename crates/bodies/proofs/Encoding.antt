@@ -1,7 +1,7 @@
 -- Literals, atoms, rules and rows, read and written, and written and read.
 use Rattle.std.proofs.Common.{◌≡◌, ℕ, suc, ◌+◌, ◌-◌, ◌*◌, ◌/◌, ◌%◌, ◌<◌, ◌≤◌, Bool, true, false, ◌&&◌, eqb, ltb, leb, List, [], ◌∷◌, ◌++◌, length, get_or, drop, sym, refl, ap, ◌∙◌, inl, inr, arith}
 use Rattle.std.specs.List.{flat_map, AllByRecursion as All}
-use Rattle.std.proofs.ByRecursion.{AllWeaker}
+use Rattle.std.proofs.ByRecursion.{All-weaker}
 use Rattle.std.proofs.lemmas.List.{length-append, length-drop, drop_more, take_at, drop_at, take-append-drop}
 use Rattle.std.proofs.lemmas.Bool.{and_parts, and_from, or_left, eqb-true, eq-eqb, leb-true, le-leb, lt-ltb}
 use Rattle.literals.specs.declared.Fact.{Fact}
@@ -151,7 +151,7 @@ literals_written : (role : Role) (n many : ℕ) (b : List ℕ) → length b ≡ 
 literals_written role n = written_each literal_of (literal_in role n) literal_bytes (literal_written role n)
 
 conditions_read : (n : ℕ) (ls : List Literal) → All (LiteralIn n) ls → Read literal_of (literal_in Condition n) literal_bytes ls
-conditions_read n ls h = read_each literal_of (literal_in Condition n) literal_bytes ls (AllWeaker (LiteralIn n) (Four literal_of (literal_in Condition n) literal_bytes) (λ l p. literal_four Condition n l p refl) ls h)
+conditions_read n ls h = read_each literal_of (literal_in Condition n) literal_bytes ls (All-weaker (LiteralIn n) (Four literal_of (literal_in Condition n) literal_bytes) (λ l p. literal_four Condition n l p refl) ls h)
 
 effects_read : (n : ℕ) (ls : List Literal) → All (LiteralIn n) ls → All EffectIn ls → Read literal_of (literal_in Effect n) literal_bytes ls
 effects_read n ls h e = read_each literal_of (literal_in Effect n) literal_bytes ls (all_both (LiteralIn n) EffectIn (Four literal_of (literal_in Effect n) literal_bytes) (λ l p q. literal_four Effect n l p (effect_allowed l.fact l.affirmed q)) ls h e)
@@ -189,7 +189,7 @@ row_written b f r =
 pub opening_read : (atoms : List Atom) → length atoms ≤ most_atoms → All AtomIn atoms → (opening_fits (flat_map atom_bytes atoms) ≡ true) × (atoms_in (flat_map atom_bytes atoms) ≡ true) × (atoms_of (flat_map atom_bytes atoms) ≡ atoms)
 opening_read atoms short h =
     let b : List ℕ = flat_map atom_bytes atoms in
-    let is = read_each atom_of atom_in atom_bytes atoms (AllWeaker AtomIn (Four atom_of atom_in atom_bytes) atom_four atoms h) in
+    let is = read_each atom_of atom_in atom_bytes atoms (All-weaker AtomIn (Four atom_of atom_in atom_bytes) atom_four atoms h) in
     (and_from (eqb (length b % 4) 0) (leb (length b) (4 * most_atoms)) (eq-eqb (length b % 4) 0 (omega (arith, is.long))) (le-leb (length b) (4 * most_atoms) (omega (arith, is.long))), is.ranges, is.says)
 
 pub rule_read : (r : Transition) → RuleIn r → (rule_fits (rule_bytes r) ≡ true) × (rule_in (rule_bytes r) ≡ true) × (rule_of (rule_bytes r) ≡ r)

@@ -2,7 +2,7 @@
 use Rattle.std.proofs.Common.{◌≡◌, Bool, true, false, ◌||◌, ◌⊎◌, List, [], ◌∷◌, ◌++◌, map, filter, refl, ap, ◌∙◌, subst, inl, inr}
 use Rattle.std.specs.List.{AllByRecursion as All}
 use Rattle.std.proofs.lemmas.Bool.{and_parts, or_cases, or_parts, or_left, or_right, cond-true, cond-false, both_ways, cases_Bool, false≢true}
-use Rattle.std.proofs.ByRecursion.{AllWeaker}
+use Rattle.std.proofs.ByRecursion.{All-weaker}
 use Rattle.literals.specs.Follow.{any, all}
 use Rattle.literals.proofs.Failing.{fails_so}
 
@@ -16,7 +16,7 @@ pub each_counts : {X Y : Type 0} (p : Y → X → Bool) (xs : List X) → All (�
 each_counts p [] = tt
 each_counts {X} {Y} p (x ∷ xs) = (
   λ y e. or_left (p y x) (any (p y) xs) e,
-  AllWeaker (λ z. (y : Y) → p y z ≡ true → any (p y) xs ≡ true) (λ z. (y : Y) → p y z ≡ true → any (p y) (x ∷ xs) ≡ true) (λ z h y e. or_right (p y x) (any (p y) xs) (h y e)) xs (each_counts p xs),
+  All-weaker (λ z. (y : Y) → p y z ≡ true → any (p y) xs ≡ true) (λ z. (y : Y) → p y z ≡ true → any (p y) (x ∷ xs) ≡ true) (λ z h y e. or_right (p y x) (any (p y) xs) (h y e)) xs (each_counts p xs),
 )
 
 -- None passes if each does not.

@@ -3,7 +3,7 @@ use Rattle.std.specs.Prelude.{◌≡◌, ℕ, zero, suc, ◌<◌, ◌≤◌, tru
 use Rattle.std.proofs.Common.{sym, ap, subst, arith}
 use Rattle.std.specs.List.{AllByRecursion as All}
 use Rattle.std.proofs.lemmas.Bool.{and_parts, or_parts, not-true, eqb-true, eqb-false, ltb-true}
-use Rattle.std.proofs.ByRecursion.{AllWeaker, All-map, All-get_or}
+use Rattle.std.proofs.ByRecursion.{All-weaker, All-map, All-get_or}
 use Rattle.literals.specs.declared.Literal.{Literal}
 use Rattle.literals.specs.State.{State, Holds, AllHold, under}
 use Rattle.literals.specs.Follow.{any, all, follows}
@@ -18,7 +18,7 @@ module _ (ls : List Literal) (place : ℕ → ℕ) (s : State) (held : AllHold s
   following : (ks : List Literal) → all (follows ls) ks ≡ true → AllHold s (map (under place) ks)
   following ks e =
       All-map (Holds s) (under place) ks
-      (AllWeaker (λ k. follows ls k ≡ true) (λ k. Holds s (under place k)) (λ k h. (sound (map (under place) ls)).follows_holds s (under place k) (follows_kept place ls k h) held) ks (each_passes (follows ls) ks e))
+      (All-weaker (λ k. follows ls k ≡ true) (λ k. Holds s (under place k)) (λ k h. (sound (map (under place) ls)).follows_holds s (under place k) (follows_kept place ls k h) held) ks (each_passes (follows ls) ks e))
 
   module _ (n : ℕ) (different : Different n place) (row : Pattern) where
     -- Every variable kept: the same placement, of fewer variables.
@@ -31,7 +31,7 @@ module _ (ls : List Literal) (place : ℕ → ℕ) (s : State) (held : AllHold s
         let p = and_parts (length matching == row.variables) (all (λ x. ltb x n) matching && not (repeats matching)) w in
         let q = and_parts (all (λ x. ltb x n) matching) (not (repeats matching)) p.1 in
         let long : length matching ≡ row.variables = eqb-true (length matching) row.variables p.0 in
-        let within : All (λ x. x < n) matching = AllWeaker (λ x. nat_lt x n ≡ true) (λ x. x < n) (λ x h. ltb-true x n h) matching (each_passes (λ x. ltb x n) matching q.0) in
+        let within : All (λ x. x < n) matching = All-weaker (λ x. nat_lt x n ≡ true) (λ x. x < n) (λ x h. ltb-true x n h) matching (each_passes (λ x. ltb x n) matching q.0) in
         record {
           place = λ x. place (slice_index matching x);
           different = λ i j h k same. apart matching (not-true (repeats matching) q.1) i j (omega arith) (omega arith) (different (slice_index matching i) (slice_index matching j) (All-get_or (λ x. x < n) matching i 0 (omega arith) within) (All-get_or (λ x. x < n) matching j 0 (omega arith) within) same);

@@ -2,7 +2,7 @@
 use Rattle.std.specs.Prelude.{◌≡◌, ℕ, ◌<◌, Bool, true, false, not, ◌&&◌, List, [], ◌∷◌, map, ◌==◌, refl}
 use Rattle.std.proofs.Common.{ap, ◌∙◌}
 use Rattle.std.specs.List.{AllByRecursion as All}
-use Rattle.std.proofs.ByRecursion.{AllWeaker}
+use Rattle.std.proofs.ByRecursion.{All-weaker}
 use Rattle.std.proofs.lemmas.Bool.Decides.{same_from_decides, Decides-like, Decides-eqb}
 use Rattle.literals.specs.declared.Fact.{Fact}
 use Rattle.literals.specs.declared.Fact.TheVariants.{Unary, Binary, From, Into}
@@ -65,13 +65,13 @@ module _ (n : ℕ) (p : ℕ → ℕ) (different : Different n p) where
   pub follows_under : (ls : List Literal) (l : Literal) → All (LiteralIn n) ls → LiteralIn n l → follows (map (under p) ls) (under p l) ≡ follows ls l
   follows_under ls l hs h =
       any_map (λ k. yields k l) (λ k. yields k (under p l)) (under p) ls
-      (AllWeaker (LiteralIn n) (λ k. yields (under p k) (under p l) ≡ yields k l) (λ k j. by_signs_under k.fact l.fact k.affirmed l.affirmed j h) ls hs)
+      (All-weaker (LiteralIn n) (λ k. yields (under p k) (under p l) ≡ yields k l) (λ k j. by_signs_under k.fact l.fact k.affirmed l.affirmed j h) ls hs)
 
   -- A set is contradictory renamed just if it is.
   pub contradictory_under : (ls : List Literal) → All (LiteralIn n) ls → contradictory (map (under p) ls) ≡ contradictory ls
   contradictory_under ls hs =
       any_map (λ l. follows ls (denial l)) (λ l. follows (map (under p) ls) (denial l)) (under p) ls
-      (AllWeaker (LiteralIn n) (λ l. follows (map (under p) ls) (denial (under p l)) ≡ follows ls (denial l)) (λ l h. follows_under ls (denial l) hs h) ls hs)
+      (All-weaker (LiteralIn n) (λ l. follows (map (under p) ls) (denial (under p l)) ≡ follows ls (denial l)) (λ l h. follows_under ls (denial l) hs h) ls hs)
 
   loosens_under : (g f : Fact) → FactIn n g → FactIn n f → loosens (fact_under p g) (fact_under p f) ≡ loosens g f
   loosens_under (Unary a y) f g h = refl
@@ -92,7 +92,7 @@ module _ (n : ℕ) (p : ℕ → ℕ) (different : Different n p) where
   pub thins_under : (effect : List Literal) (f : Fact) → All (LiteralIn n) effect → FactIn n f → thins (map (under p) effect) (fact_under p f) ≡ thins effect f
   thins_under effect f hs h =
       any_map (λ k. not k.affirmed && loosens k.fact f) (λ k. not k.affirmed && loosens k.fact (fact_under p f)) (under p) effect
-      (AllWeaker (LiteralIn n) (λ k. (not k.affirmed && loosens (fact_under p k.fact) (fact_under p f)) ≡ (not k.affirmed && loosens k.fact f)) (λ k j. ap (λ (u : Bool). not k.affirmed && u) (loosens_under k.fact f j h)) effect hs)
+      (All-weaker (LiteralIn n) (λ k. (not k.affirmed && loosens (fact_under p k.fact) (fact_under p f)) ≡ (not k.affirmed && loosens k.fact f)) (λ k j. ap (λ (u : Bool). not k.affirmed && u) (loosens_under k.fact f j h)) effect hs)
 
   pub loosened_under : (effect : List Literal) (l : Literal) → All (LiteralIn n) effect → LiteralIn n l → loosened (map (under p) effect) (under p l) ≡ loosened effect l
   loosened_under effect l hs h = ap (λ (u : Bool). not l.affirmed && u) (thins_under effect l.fact hs h)

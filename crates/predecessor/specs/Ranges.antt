@@ -2,7 +2,7 @@
 use Rattle.std.specs.Prelude.{◌≡◌, ℕ, ◌<◌, ◌≤◌, List, map, length, slice_index}
 use Rattle.std.proofs.Common.{arith}
 use Rattle.std.specs.List.{AllByRecursion as All}
-use Rattle.std.proofs.ByRecursion.{AllWeaker, All-map, All-get_or}
+use Rattle.std.proofs.ByRecursion.{All-weaker, All-map, All-get_or}
 use Rattle.literals.specs.declared.Fact.{Fact}
 use Rattle.literals.specs.declared.Fact.TheVariants.{Unary, Binary, From, Into}
 use Rattle.literals.specs.declared.Literal.{Literal}
@@ -17,7 +17,7 @@ more_variables n k h (Into b x) p = (p.0, omega (arith, p.1))
 
 -- Literals over some variables are literals over more.
 pub in_more : (n k : ℕ) → n ≤ k → (ls : List Literal) → All (LiteralIn n) ls → All (LiteralIn k) ls
-in_more n k h ls = AllWeaker (LiteralIn n) (LiteralIn k) (λ l. more_variables n k h l.fact) ls
+in_more n k h ls = All-weaker (LiteralIn n) (LiteralIn k) (λ l. more_variables n k h l.fact) ls
 
 renamed_in : (n k : ℕ) (p : ℕ → ℕ) → ((x : ℕ) → x < n → p x < k) → (f : Fact) → FactIn n f → FactIn k (fact_under p f)
 renamed_in n k p h (Unary a x) q = (q.0, h x q.1)
@@ -29,7 +29,7 @@ renamed_in n k p h (Into b x) q = (q.0, h x q.1)
 pub chosen_in : (n k : ℕ) (xs : List ℕ) → length xs ≡ n → All (λ x. x < k) xs → (ls : List Literal) → All (LiteralIn n) ls → All (LiteralIn k) (chosen xs ls)
 chosen_in n k xs e h ls hs =
     All-map (LiteralIn k) (under (λ x. slice_index xs x)) ls
-    (AllWeaker (LiteralIn n) (λ l. LiteralIn k (under (λ x. slice_index xs x) l)) (λ l. renamed_in n k (λ x. slice_index xs x) (λ x l. All-get_or (λ y. y < k) xs x 0 (omega arith) h) l.fact) ls hs)
+    (All-weaker (LiteralIn n) (λ l. LiteralIn k (under (λ x. slice_index xs x) l)) (λ l. renamed_in n k (λ x. slice_index xs x) (λ x l. All-get_or (λ y. y < k) xs x 0 (omega arith) h) l.fact) ls hs)
 
 effective_under : (p : ℕ → ℕ) (f : Fact) → Effective f → Effective (fact_under p f)
 effective_under p (Unary a x) h = tt
@@ -39,4 +39,4 @@ effective_under p (Into b x) h = h
 
 -- An effect that affirms only atoms does so renamed.
 pub effect_in_under : (p : ℕ → ℕ) (ls : List Literal) → All EffectIn ls → All EffectIn (map (under p) ls)
-effect_in_under p ls h = All-map EffectIn (under p) ls (AllWeaker EffectIn (λ l. EffectIn (under p l)) (λ l q e. effective_under p l.fact (q e)) ls h)
+effect_in_under p ls h = All-map EffectIn (under p) ls (All-weaker EffectIn (λ l. EffectIn (under p l)) (λ l q e. effective_under p l.fact (q e)) ls h)

@@ -4,7 +4,7 @@ use Rattle.std.proofs.Common.{sym, ap, subst, ◌∙◌, arith}
 use Rattle.std.specs.List.{AllByRecursion as All}
 use Rattle.std.proofs.lemmas.Bool.{not-true, not_from_true, or_parts, or_from}
 use Rattle.std.proofs.lemmas.List.{map-append, get_or-map}
-use Rattle.std.proofs.ByRecursion.{AllWeaker, All-append, All-map, all_kept_by, kept_by_passes}
+use Rattle.std.proofs.ByRecursion.{All-weaker, All-append, All-map, all_kept_by, kept_by_passes}
 use Rattle.literals.specs.declared.Literal.{Literal}
 use Rattle.literals.specs.State.{State, Holds, AllHold, under, chosen}
 use Rattle.literals.specs.Follow.{denial, any, contradictory}
@@ -77,7 +77,7 @@ module _ (rule : Transition) (row : Pattern) (rule_in : RuleIn rule) (row_in : R
         stood = rw (map-append (under place) (chosen (renaming rule row n) rule.condition) (kept effect row.literals)) (All-append (Holds s) _ _ met (kept_held (case_variables rule row) place different effect (effect_within n) s row.literals row_within stands))
 
         none_false : any (made_false effect) row.literals ≡ false
-        none_false = none_passes (made_false effect) row.literals (AllWeaker (λ l. Holds (after (map (under place) effect) s) (under place l)) (λ l. made_false effect l ≢ true) (λ l h e. made_false_fails (map (under place) effect) s (affirms_atoms n place) fair (under place l) (follows_kept place effect (denial l) e) h) row.literals (all_unmapped (Holds (after (map (under place) effect) s)) (under place) row.literals stands))
+        none_false = none_passes (made_false effect) row.literals (All-weaker (λ l. Holds (after (map (under place) effect) s) (under place l)) (λ l. made_false effect l ≢ true) (λ l h e. made_false_fails (map (under place) effect) s (affirms_atoms n place) fair (under place l) (follows_kept place effect (denial l) e) h) row.literals (all_unmapped (Holds (after (map (under place) effect) s)) (under place) row.literals stands))
 
         pub not_idle : idle rule row n ≡ false
         not_idle =

@@ -5,8 +5,8 @@ use Rattle.judge.proofs.model.Model.play.Goals as goal
 
 pub loop-call-init : goal.loop-call-init
 loop-call-init g c =
-    let room = c.in_ok-answers.ensures.made.1 in
-    (refl, c.requires, room.0, room.1, none)
+    let made = c.in_ok-answers.ensures in
+    (refl, c.requires, made.len, made.capacity, none)
 
 pub loop-call-preserved : goal.loop-call-preserved
 loop-call-preserved g c =
