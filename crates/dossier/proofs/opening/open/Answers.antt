@@ -24,8 +24,8 @@ build-requires c =
     let r = c.in_ok-book.ensures.ranged in
     record { in_range = r.book_in; observers = observers_in (draft_book_of d.book) (layers_of d.layers) r.book_in r.few_layers r.layers_in }
 
-pub invariant-of-result : goal.invariant-of-result
-invariant-of-result c =
+pub invariant_of-result : goal.invariant_of-result
+invariant_of-result c =
     let o = c.in-Ok.ensures.opens in
     (∣ o.0 ∣₁, (guarded_by c.in-Ok.model (kind_book c.in_ok-kind.kind) o.1 c.in-Ok.ensures.guarded, tt))
 

@@ -12,6 +12,6 @@ returns-else-length-rest c =
       kind,
       refl,
       (simp take_rest at c.split_at.ensures.front) ∙ ap (λ (n : ℕ). take n (drop 4 bs)) long,
-      c.split_at.ensures.front-len ∙ long,
+      c.split_at.ensures.front_len ∙ long,
       (simp take_rest at c.split_at.ensures.back) ∙ drop-drop (c.from.result + 256 * c.from-in-len4-up.result) 4 bs ∙ ap (λ (n : ℕ). drop (4 + n) bs) long,
     )

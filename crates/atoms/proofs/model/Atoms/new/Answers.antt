@@ -1,4 +1,4 @@
 use Rattle.atoms.proofs.model.Atoms.new.Goals as goal
 
-pub invariant-of-result : goal.invariant-of-result
-invariant-of-result c = (∣ c.in_ok-check.ensures ∣₁, tt)
+pub invariant_of-result : goal.invariant_of-result
+invariant_of-result c = (∣ c.in_ok-check.ensures ∣₁, tt)

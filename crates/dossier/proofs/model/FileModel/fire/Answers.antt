@@ -7,8 +7,8 @@ use Rattle.dossier.proofs.model.FileModel.fire.Goals as goal
 pub fire-requires : goal.fire-requires
 fire-requires c = told c.args.self.now.model c.args.self.now.valid
 
-pub invariant-of-self : goal.invariant-of-self
-invariant-of-self c =
+pub invariant_of-self : goal.invariant_of-self
+invariant_of-self c =
     let before = c.args.self.now.model in
     let e = c.fire.ensures in (
       ∣ e.good ∣₁,

@@ -5,8 +5,8 @@ use Rattle.dossier.proofs.model.FileModel.play.Goals as goal
 pub play-requires : goal.play-requires
 play-requires c = told c.args.self.now.model c.args.self.now.valid
 
-pub invariant-of-self : goal.invariant-of-self
-invariant-of-self c =
+pub invariant_of-self : goal.invariant_of-self
+invariant_of-self c =
     let e = c.play.ensures in
     (∣ e.good ∣₁, (still_guarded c.args.self.now.model c.play.new.self c.args.calls.now c.args.self.now.guarded c.play.result e.same e.played e.unmoved, tt))
 

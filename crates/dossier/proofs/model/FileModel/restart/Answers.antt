@@ -7,8 +7,8 @@ use Rattle.dossier.proofs.model.FileModel.restart.Goals as goal
 pub restart-requires : goal.restart-requires
 restart-requires c = told c.args.self.now.model c.args.self.now.valid
 
-pub invariant-of-self : goal.invariant-of-self
-invariant-of-self c =
+pub invariant_of-self : goal.invariant_of-self
+invariant_of-self c =
     let before = c.args.self.now.model in
     let e = c.restart.ensures in
     (∣ e.good ∣₁, (guarded_by c.restart.new.self (model_book before) e.same (rw e.back (restarted (model_meaning before) c.args.self.now.guarded)), tt))
