@@ -2,7 +2,7 @@
 use Rattle.std.proofs.Common.{◌≡◌}
 use mathlib.Core.HLevel.{×_prop, Unit-prop}
 use mathlib.Core.Logic.{∥∥₁_elim}
-use denote.Struct.Props.{props, four_prop}
+use denote.Struct.Props.{props}
 use Rattle.pattern.specs.Meaning.{Meaning}
 use Rattle.counts.specs.Counted.{counted_meaning}
 use Rattle.counts.specs.Kind.{counts_book, counts_valid}
@@ -30,7 +30,7 @@ module _ {S B : Type 0} (m : Meaning S) (b : ObservedBook B) where
   cases_prop = hlevel props
 
   ranged_prop : IsProp (InRange m b)
-  ranged_prop = four_prop moves_prop rows_prop below_prop cases_prop
+  ranged_prop = hlevel props
 
 observed_prop : {K B S : Type 0} (valid : K → Type 0) (meaning : B → Meaning S) (book : K → B) → ((k : K) → IsProp (valid k)) → (o : Observer K) → IsProp (valid_of valid meaning book o)
 observed_prop valid meaning book p o = ×_prop (p o.below) (ranged_prop (meaning (book o.below)) (book_of book o))

@@ -60,7 +60,7 @@ fn judge_and_play<K: PatternKind + Drop>(
     table: &[Entry],
     calls: &[Call],
 ) -> anyhow::Result<()>
-    requires { valid kind }
+    requires { K.valid kind }
 {
     match Model::new(kind, table) {
         Ok(model) => {
@@ -79,7 +79,7 @@ fn play<K: PatternKind + Drop>(
     mut model: Model<K>,
     calls: &[Call],
 ) -> anyhow::Result<()>
-    requires { valid model.kind }
+    requires { K.valid model.kind }
 {
     let answers = model.play(rt.alloc(), calls)?;
     for (call, answer) in calls.iter().zip(answers.iter()) {

@@ -27,7 +27,7 @@ build-requires c =
 pub invariant_of-result : goal.invariant_of-result
 invariant_of-result c =
     let o = c.in-Ok.ensures.opens in
-    (∣ o.0 ∣₁, (guarded_by c.in-Ok.model (kind_book c.in_ok-kind.kind) o.1 c.in-Ok.ensures.guarded, tt))
+    record { valid = ∣ o.0 ∣₁; guarded = guarded_by c.in-Ok.model (kind_book c.in_ok-kind.kind) o.1 c.in-Ok.ensures.guarded }
 
 pub returns-in-Ok : goal.returns-in-Ok
 returns-in-Ok c =

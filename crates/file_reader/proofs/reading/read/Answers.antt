@@ -19,8 +19,8 @@ use Rattle.file_reader.proofs.reading.read.Goals as goal
 octets : (bytes : List ℕ) → ((i : ℕ) → Fits w8 (get_or bytes i 0)) → Bytes bytes
 octets bytes h = All-from_get_or (λ n. n ≤ 255) bytes 0 (λ i _. omega (arith, h i))
 
-pub returns-then-bytes-gt-MAX-BYTES : goal.returns-then-bytes-gt-MAX-BYTES
-returns-then-bytes-gt-MAX-BYTES c = record { reads = too_long (omega arith); ranged = tt; alone = one_verdict c.args.bytes.now; encodes = encoding_law c.args.bytes.now (λ short. absurd (omega arith)) }
+pub returns-then-bytes-gt-MAX_BYTES : goal.returns-then-bytes-gt-MAX_BYTES
+returns-then-bytes-gt-MAX_BYTES c = record { reads = too_long (omega arith); ranged = tt; alone = one_verdict c.args.bytes.now; encodes = encoding_law c.args.bytes.now (λ short. absurd (omega arith)) }
 
 pub records-init : goal.records-init
 records-init c = (subst (λ (g : Progress). At c.args.bytes.now 0 g) (sym c.new-draft.ensures) begins, omega arith, refl)

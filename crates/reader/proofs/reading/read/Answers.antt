@@ -12,8 +12,8 @@ use Rattle.reader.proofs.OneVerdict.{one_verdict}
 use Rattle.reader.proofs.Taking.{answered_of}
 use Rattle.reader.proofs.reading.read.Goals as goal
 
-pub returns-then-bytes-gt-MAX-BYTES : goal.returns-then-bytes-gt-MAX-BYTES
-returns-then-bytes-gt-MAX-BYTES c = record { reads = too_long (omega arith); alone = one_verdict c.args.bytes.now }
+pub returns-then-bytes-gt-MAX_BYTES : goal.returns-then-bytes-gt-MAX_BYTES
+returns-then-bytes-gt-MAX_BYTES c = record { reads = too_long (omega arith); alone = one_verdict c.args.bytes.now }
 
 pub records-init : goal.records-init
 records-init c = (subst (λ (g : Progress). At c.args.bytes.now 0 g) (sym c.new-draft.ensures) begins, omega arith, refl)

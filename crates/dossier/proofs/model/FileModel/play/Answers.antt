@@ -8,7 +8,7 @@ play-requires c = told c.args.self.now.model c.args.self.now.valid
 pub invariant_of-self : goal.invariant_of-self
 invariant_of-self c =
     let e = c.play.ensures in
-    (∣ e.good ∣₁, (still_guarded c.args.self.now.model c.play.new.self c.args.calls.now c.args.self.now.guarded c.play.result e.same e.played e.unmoved, tt))
+    record { valid = ∣ e.good ∣₁; guarded = still_guarded c.args.self.now.model c.play.new.self c.args.calls.now c.args.self.now.guarded c.play.result e.same e.played e.unmoved }
 
 pub returns : goal.returns
 returns c =

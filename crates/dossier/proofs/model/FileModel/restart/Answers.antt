@@ -11,4 +11,4 @@ pub invariant_of-self : goal.invariant_of-self
 invariant_of-self c =
     let before = c.args.self.now.model in
     let e = c.restart.ensures in
-    (∣ e.good ∣₁, (guarded_by c.restart.new.self (model_book before) e.same (rw e.back (restarted (model_meaning before) c.args.self.now.guarded)), tt))
+    record { valid = ∣ e.good ∣₁; guarded = guarded_by c.restart.new.self (model_book before) e.same (rw e.back (restarted (model_meaning before) c.args.self.now.guarded)) }
