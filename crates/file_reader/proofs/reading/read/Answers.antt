@@ -33,7 +33,7 @@ returns-in_err-number c =
     record {
       ranged = rw p.1 tt;
       alone = one_verdict c.args.bytes.now;
-      encodes = encoding_law c.args.bytes.now (λ _. octets c.args.bytes.now c.type-inv.bytes);
+      encodes = encoding_law c.args.bytes.now (λ _. octets c.args.bytes.now c.type_inv.bytes);
       reads = rw (p.1, p.2, e.0)
           (cut c.args.bytes.now c.records.rest.now c.records.place (progress_of c.records.draft) inv.0 inv.1 inv.2 (omega arith)
           (not_from_Decides c.ended.result c.ended.ensures c.records-test.true) e.1);
@@ -46,7 +46,7 @@ returns-in_default c =
     record {
       ranged = tt;
       alone = one_verdict c.args.bytes.now;
-      encodes = encoding_law c.args.bytes.now (λ _. octets c.args.bytes.now c.type-inv.bytes);
+      encodes = encoding_law c.args.bytes.now (λ _. octets c.args.bytes.now c.type_inv.bytes);
       reads = unknown c.args.bytes.now c.records.rest.now c.records.place (progress_of c.records.draft) inv.0 inv.1 inv.2 (omega arith)
           (not_from_Decides c.ended.result c.ended.ensures c.records-test.true) e.0 (λ k h. c.in_default.ensures k (h ∙ sym e.1));
     }
@@ -60,7 +60,7 @@ returns-in_err-draft c =
     record {
       ranged = rw p.1 tt;
       alone = one_verdict c.args.bytes.now;
-      encodes = encoding_law c.args.bytes.now (λ _. octets c.args.bytes.now c.type-inv.bytes);
+      encodes = encoding_law c.args.bytes.now (λ _. octets c.args.bytes.now c.type_inv.bytes);
       reads = rw (p.1, p.2)
           (refused c.args.bytes.now c.records.rest.now c.records.place (progress_of c.records.draft) inv.0 inv.1 inv.2 (omega arith)
           (not_from_Decides c.ended.result c.ended.ensures c.records-test.true) e.0 c.in-Some.kind (sym e.1 ∙ sym c.in-Some.ensures)
@@ -94,9 +94,9 @@ returns-then-is_empty c =
     let none : length c.records.rest.now ≡ 0 = eqb-true (length c.records.rest.now) 0 (sym c.is_empty.ensures ∙ c.if-is_empty.true) in
     let all : c.records.place ≡ length c.args.bytes.now = omega (arith, none, inv.1, ap length inv.2, length-drop c.records.place c.args.bytes.now) in
     record {
-      ranged = in_range (progress_of c.records.draft) (subst (WellAt (progress_of c.records.draft)) (c.ended.ensures.0 c.records-test.false) (well c.args.bytes.now (octets c.args.bytes.now c.type-inv.bytes) inv.0));
+      ranged = in_range (progress_of c.records.draft) (subst (WellAt (progress_of c.records.draft)) (c.ended.ensures.0 c.records-test.false) (well c.args.bytes.now (octets c.args.bytes.now c.type_inv.bytes) inv.0));
       alone = one_verdict c.args.bytes.now;
-      encodes = encoding_law c.args.bytes.now (λ _. octets c.args.bytes.now c.type-inv.bytes);
+      encodes = encoding_law c.args.bytes.now (λ _. octets c.args.bytes.now c.type_inv.bytes);
       reads = record { short = omega arith; read = rw all at inv.0; ended = c.ended.ensures.0 c.records-test.false };
     }
 
@@ -104,4 +104,4 @@ pub returns-else-is_empty : goal.returns-else-is_empty
 returns-else-is_empty c =
     let inv = c.records.invariant in
     let some : length c.records.rest.now ≡ 0 → ⊥ = eqb-false (length c.records.rest.now) 0 (sym c.is_empty.ensures ∙ c.if-is_empty.false) in
-    record { ranged = tt; alone = one_verdict c.args.bytes.now; encodes = encoding_law c.args.bytes.now (λ _. octets c.args.bytes.now c.type-inv.bytes); reads = left_after_end c.args.bytes.now c.records.rest.now c.records.place (progress_of c.records.draft) inv.0 inv.1 inv.2 (omega arith) (c.ended.ensures.0 c.records-test.false) (omega arith) }
+    record { ranged = tt; alone = one_verdict c.args.bytes.now; encodes = encoding_law c.args.bytes.now (λ _. octets c.args.bytes.now c.type_inv.bytes); reads = left_after_end c.args.bytes.now c.records.rest.now c.records.place (progress_of c.records.draft) inv.0 inv.1 inv.2 (omega arith) (c.ended.ensures.0 c.records-test.false) (omega arith) }
