@@ -1,5 +1,5 @@
 -- Literals and atoms as four bytes of a body: kind, relation, first, second.
-use Rattle.std.specs.Prelude.{◌≡◌, ℕ, zero, suc, Bool, true, false, cond, ◌&&◌, ◌||◌, List, Ok, Err, Result, ◌==◌, nat_le, nat_lt}
+use Rattle.std.specs.Prelude.{◌≡◌, ℕ, zero, suc, Bool, true, false, cond, ◌&&◌, ◌||◌, Ok, Err, Result, ◌==◌, nat_le, nat_lt}
 use Rattle.literals.specs.declared.Fact.TheVariants as fact
 use Rattle.literals.specs.declared.Literal.{Literal}
 use Rattle.literals.specs.declared.LiteralKind.{LiteralKind}

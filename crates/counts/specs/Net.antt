@@ -1,5 +1,5 @@
 -- Counted books (Petri nets): states and patterns that give each place a whole number.
-use Rattle.std.specs.Prelude.{ℕ, zero, suc, ◌+◌, ◌-◌, ◌≤◌, Bool, true, ◌&&◌, List, [], Ok, Err, Result, nat_le, slice_index}
+use Rattle.std.specs.Prelude.{ℕ, zero, suc, ◌+◌, ◌-◌, ◌≤◌, Bool, true, ◌&&◌, List, Ok, Err, Result, nat_le, slice_index}
 use Rattle.pattern.specs.declared.FireRefusal.{FireRefusal}
 use Rattle.pattern.specs.declared.FireRefusal.TheVariants.{NoSuchRule, ChoiceNotHeld, ConditionNotMet, EffectContradictory, BeyondModel}
 

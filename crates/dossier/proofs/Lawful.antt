@@ -11,7 +11,6 @@ use Rattle.records.specs.declared.FormFault.{FormFault}
 use Rattle.drafting.specs.Progress.{Progress}
 use Rattle.file_reader.specs.Dossier.{Dossier, dossier_of}
 use Rattle.file_reader.specs.Form.{InForm, Faulty, Reached, OneVerdict}
-use Rattle.line.specs.declared.Verdict.{Verdict}
 use Rattle.line.specs.declared.Verdict.TheVariants.{Accept, Form, Refuse}
 use Rattle.dossier.specs.Meaning.{FileBook, FileKind, FileState, file_book, book_meaning, file_meaning, model_book, model_state, ModelGuarded}
 use Rattle.dossier.specs.Law.{HoldsDossier, FileLaw}

@@ -1,5 +1,5 @@
 -- The observers of a dossier in range are observers of its book.
-use Rattle.std.proofs.Common.{◌≡◌, ℕ, suc, ◌*◌, ◌^◌, ◌<◌, ◌≤◌, Bool, true, false, cond, ◌&&◌, ltb, List, [], ◌∷◌, length, arith}
+use Rattle.std.proofs.Common.{ℕ, suc, ◌*◌, ◌^◌, ◌<◌, ◌≤◌, Bool, true, false, cond, ◌&&◌, ltb, List, [], ◌∷◌, length, arith}
 use Rattle.std.proofs.ByRecursion.{All-get_or}
 use Rattle.pattern.specs.Meaning.{Meaning}
 use Rattle.pattern.specs.Duty.{most_cases}

@@ -1,5 +1,4 @@
 -- That a kind of a file is valid is known in one way at most, so it can be told of a model.
-use Rattle.std.proofs.Common.{◌≡◌}
 use mathlib.Core.HLevel.{×_prop, Unit-prop}
 use mathlib.Core.Logic.{∥∥₁_elim}
 use denote.Struct.Props.{props}

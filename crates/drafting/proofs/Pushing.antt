@@ -20,7 +20,7 @@ use Rattle.records.specs.declared.Section.TheVariants as section
 use Rattle.records.specs.Field.{words, mode_of}
 use Rattle.drafting.specs.declared.draft.DraftBook.{DraftBook}
 use Rattle.drafting.specs.declared.draft.DraftBook.TheVariants.{Counts, Atoms}
-use Rattle.drafting.specs.Book.{Book, counted, atomic, rule_in, row_in, with_rule, with_row}
+use Rattle.drafting.specs.Book.{counted, atomic, rule_in, row_in, with_rule, with_row}
 use Rattle.drafting.specs.Progress.{Layer, Progress, advance}
 use Rattle.drafting.specs.Drafted.{draft_book_of}
 

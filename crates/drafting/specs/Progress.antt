@@ -1,5 +1,5 @@
 -- What the records of a file hold, as far as it was read, and which record may come next.
-use Rattle.std.specs.Prelude.{ℕ, ◌+◌, ◌*◌, Bool, true, false, ◌&&◌, List, [], ◌∷◌, ◌++◌, map, length, drop, ◌==◌, nat_le, nat_lt, slice_index}
+use Rattle.std.specs.Prelude.{ℕ, ◌+◌, ◌*◌, Bool, true, ◌&&◌, List, [], ◌∷◌, ◌++◌, map, length, drop, ◌==◌, nat_le, nat_lt, slice_index}
 use Rattle.pattern.specs.Duty.{most_rules, most_rows}
 use Rattle.judge.specs.Acceptance.{Claim}
 use Rattle.observer.specs.declared.Mode.{Mode}

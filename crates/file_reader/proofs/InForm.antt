@@ -1,5 +1,5 @@
 -- How far a file is in form, record by record.
-use Rattle.std.proofs.Common.{◌≡◌, ℕ, ◌+◌, ◌<◌, ◌≤◌, List, [], length, drop, Ok, Err, sym, ap, ◌∙◌, arith, MatchOption}
+use Rattle.std.proofs.Common.{◌≡◌, ℕ, ◌+◌, ◌<◌, ◌≤◌, List, length, drop, Ok, Err, sym, ap, ◌∙◌, arith, MatchOption}
 use Rattle.std.proofs.lemmas.List.{length-drop, drop-drop}
 use Rattle.drafting.specs.declared.Draft.{Draft}
 use Rattle.records.specs.declared.DossierFault.TheVariants.{Record}

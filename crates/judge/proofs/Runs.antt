@@ -1,5 +1,5 @@
 -- Runs go on with the calls on a model.
-use Rattle.std.proofs.Common.{◌≡◌, ◌<◌, List, [], ◌∷◌, ◌++◌, Ok, Err, Result}
+use Rattle.std.proofs.Common.{◌<◌, List, [], ◌∷◌, ◌++◌, Ok, Err, Result}
 use Rattle.pattern.specs.declared.FireRefusal.{FireRefusal}
 use Rattle.pattern.specs.declared.Answer.{Answer}
 use Rattle.pattern.specs.declared.Answer.TheVariants.{Fired as fired}

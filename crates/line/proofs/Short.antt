@@ -1,5 +1,5 @@
 -- A line whose numbers are those of a file is short.
-use Rattle.std.proofs.Common.{ℕ, ◌+◌, ◌^◌, ◌<◌, ◌≤◌, List, [], ◌∷◌, ◌++◌, length, codes, decimal, arith, length-append}
+use Rattle.std.proofs.Common.{◌≤◌, length, decimal, arith, length-append}
 use Rattle.std.proofs.lemmas.Fmt.{length-decimal-le}
 use Rattle.judge.specs.declared.TableGround.{TableGround}
 use Rattle.judge.specs.declared.TableGround.TheVariants.{RowStands, NoEntry, NoSuchRow, BadMatching, NotCovered, LeftOver}

@@ -1,5 +1,5 @@
 -- What follows from a set of literals, and when the set is contradictory.
-use Rattle.std.specs.Prelude.{◌≡◌, ℕ, Bool, true, false, not, ◌&&◌, ◌||◌, List, [], ◌∷◌, ◌==◌}
+use Rattle.std.specs.Prelude.{◌≡◌, Bool, true, false, not, ◌&&◌, ◌||◌, List, [], ◌∷◌, ◌==◌}
 use Rattle.literals.specs.declared.literal.Fact.{Fact}
 use Rattle.literals.specs.declared.literal.Fact.TheVariants.{Unary, Binary, From, Into}
 use Rattle.literals.specs.declared.literal.Literal.{Literal}

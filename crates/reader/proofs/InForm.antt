@@ -1,5 +1,5 @@
 -- How far a file is in form, record by record.
-use Rattle.std.proofs.Common.{◌≡◌, ℕ, ◌+◌, ◌-◌, ◌<◌, ◌≤◌, true, false, List, [], length, drop, IfSome, Ok, Err, sym, refl, ap, ◌∙◌, subst, arith}
+use Rattle.std.proofs.Common.{◌≡◌, ℕ, ◌+◌, ◌<◌, ◌≤◌, List, length, drop, IfSome, Ok, Err, sym, ap, ◌∙◌, arith}
 use Rattle.std.proofs.lemmas.List.{length-drop, drop-drop}
 use Rattle.reader.specs.declared.draft.Draft.{Draft}
 use Rattle.reader.specs.declared.fault.DossierFault.TheVariants.{Record}
@@ -11,7 +11,7 @@ use Rattle.reader.specs.declared.section.Section.TheVariants as section
 use Rattle.reader.specs.Number.{record_number}
 use Rattle.reader.specs.Bytes.{length_at, kind_at, body_at}
 use Rattle.reader.specs.Fault.{form_of}
-use Rattle.reader.specs.Progress.{Progress, allowed, long, ranged, advance}
+use Rattle.reader.specs.Progress.{Progress}
 use Rattle.reader.specs.Form.{most_bytes, StandsAt, At, more, Faulty, cut_short, unknown_kind, misplaced, after_end, wrong_length, out_of_range}
 use Rattle.reader.specs.Drafted.{progress_of, Answered}
 

@@ -1,5 +1,5 @@
 -- A file comes to one verdict: where its records stop being in form is computed by a function.
-use Rattle.std.proofs.Common.{◌≡◌, ℕ, zero, suc, ◌+◌, ◌<◌, ◌≤◌, Bool, true, false, cond, eqb, ltb, ◌⊎◌, List, length, drop, Some, None, Ok, Err, Option, Result, sym, refl, ap, ◌∙◌, subst, inl, inr, arith}
+use Rattle.std.proofs.Common.{◌≡◌, ℕ, ◌+◌, ◌<◌, ◌≤◌, Bool, true, false, cond, eqb, ltb, List, length, drop, Some, None, Ok, Err, Option, Result, sym, refl, ap, ◌∙◌, subst, inl, inr, arith}
 use Rattle.std.proofs.lemmas.Bool.{cond-true, cond-false, cases_lt, ne_eqb, lt-ltb, le-ltb}
 use Rattle.reader.specs.declared.fault.FormGround.{FormGround}
 use Rattle.reader.specs.declared.fault.FormGround.TheVariants as ground
@@ -11,7 +11,7 @@ use Rattle.reader.specs.declared.section.Section.TheVariants as section
 use Rattle.reader.specs.Number.{record_number}
 use Rattle.reader.specs.Bytes.{length_at, kind_at, body_at}
 use Rattle.reader.specs.Progress.{Progress, start, section_number, allowed, long, ranged, advance}
-use Rattle.reader.specs.Form.{most_bytes, StandsAt, At, begins, more, InForm, Faulty, too_long, cut_short, unknown_kind, misplaced, after_end, wrong_length, out_of_range, Verdict, OneVerdict}
+use Rattle.reader.specs.Form.{most_bytes, StandsAt, At, begins, more, Faulty, too_long, cut_short, unknown_kind, misplaced, after_end, wrong_length, out_of_range, Verdict, OneVerdict}
 
 -- The kind with a number.
 kind_of : ℕ → Option RecordKind

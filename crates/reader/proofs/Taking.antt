@@ -1,5 +1,5 @@
 -- A record that is allowed and has the right length is answered as it is taken.
-use Rattle.std.proofs.Common.{◌≡◌, ℕ, true, List, length, Ok, Err, Result, sym, refl, ap, ◌∙◌, subst}
+use Rattle.std.proofs.Common.{◌≡◌, ℕ, true, List, length, Ok, Err, Result, sym, ap, ◌∙◌, subst}
 use Rattle.reader.specs.declared.draft.Draft.{Draft}
 use Rattle.reader.specs.declared.fault.RecordFault.{RecordFault}
 use Rattle.reader.specs.declared.fault.RecordFault.TheVariants.{KindNotAllowed, WrongLength, Field, OutOfMemory}

@@ -1,6 +1,5 @@
 -- What a fault says of the file.
 use Rattle.std.specs.Prelude.{Some, None, Option}
-use Rattle.reader.specs.declared.fault.FormGround as grounds
 use Rattle.reader.specs.declared.fault.FormGround.TheVariants as ground
 use Rattle.reader.specs.declared.fault.FormFault.{FormFault}
 use Rattle.reader.specs.declared.fault.RecordFault.TheVariants as inner

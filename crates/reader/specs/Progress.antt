@@ -1,6 +1,6 @@
 -- What the records of a file hold, as far as it was read, and which record may come next.
-use Rattle.std.specs.Prelude.{ℕ, zero, suc, ◌+◌, ◌*◌, ◌<◌, ◌≤◌, Bool, true, false, cond, ◌&&◌, ◌||◌, List, [], ◌∷◌, ◌++◌, map, length, take, drop, ◌==◌, nat_le, nat_lt, slice_index}
-use Rattle.counts.specs.Counted.{Transition, CountedBook}
+use Rattle.std.specs.Prelude.{ℕ, zero, suc, ◌*◌, Bool, true, false, ◌&&◌, ◌||◌, List, [], ◌∷◌, ◌++◌, map, length, take, drop, ◌==◌, nat_le, nat_lt, slice_index}
+use Rattle.counts.specs.Counted.{CountedBook}
 use Rattle.judge.specs.Acceptance.{Claim}
 use Rattle.observer.specs.declared.Mode.{Mode}
 use Rattle.observer.specs.declared.Mode.TheVariants.{Zero, One, Two, Three}

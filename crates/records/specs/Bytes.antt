@@ -1,5 +1,5 @@
 -- Records as they stand in a file. Numbers of two bytes have the low byte first.
-use Rattle.std.specs.Prelude.{ℕ, ◌+◌, ◌*◌, List, [], take, drop, slice_index}
+use Rattle.std.specs.Prelude.{ℕ, ◌+◌, ◌*◌, List, take, drop, slice_index}
 
 abbrev pub word : ℕ → ℕ → ℕ
 word low high = low + 256 * high

@@ -1,5 +1,5 @@
 -- The order of the records: after which sections a record of a kind may come, and the section that it leads to.
-use Rattle.std.specs.Prelude.{ℕ, Bool, true, false, ◌||◌, List, [], ◌∷◌, ◌==◌}
+use Rattle.std.specs.Prelude.{ℕ, Bool, false, ◌||◌, List, [], ◌∷◌, ◌==◌}
 use Rattle.records.specs.declared.record.RecordKind.{RecordKind}
 use Rattle.records.specs.declared.record.RecordKind.TheVariants as kind
 use Rattle.records.specs.declared.section.Section.{Section}

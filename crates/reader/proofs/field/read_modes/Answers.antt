@@ -1,4 +1,4 @@
-use Rattle.std.proofs.Common.{◌≡◌, vec_items, arith}
+use Rattle.std.proofs.Common.{vec_items}
 use Rattle.std.proofs.lemmas.Result.{err_from_is_err_and}
 use Rattle.reader.proofs.Fields.{mode_ranged, mode_pushed, mode_unranged, modes_ranged, modes_all}
 use Rattle.reader.proofs.field.read_modes.Goals as goal

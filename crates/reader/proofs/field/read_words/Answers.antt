@@ -1,4 +1,4 @@
-use Rattle.std.proofs.Common.{◌≡◌, ◌+◌, ◌*◌, ◌<◌, ◌≤◌, length, vec_items, arith, rules}
+use Rattle.std.proofs.Common.{◌+◌, ◌*◌, ◌<◌, ◌≤◌, length, vec_items, arith, rules}
 use Rattle.std.proofs.lemmas.List.{take_rest}
 use Rattle.reader.proofs.Fields.{words_more, words_all}
 use Rattle.reader.proofs.field.read_words.Goals as goal

@@ -1,5 +1,3 @@
-use Rattle.std.proofs.Common.{List, [], ◌∷◌, ◌++◌, ◌∙◌}
-use Rattle.drafting.specs.Progress.{Layer}
 use Rattle.drafting.specs.Drafted.{layers_of, progress_of}
 use Rattle.drafting.proofs.Pushing.{layer_added}
 use Rattle.drafting.proofs.draft.Draft.take_moves.Goals as goal

@@ -1,7 +1,7 @@
 use Rattle.std.proofs.Common.{◌+◌, List, ◌∷◌, ◌++◌, length, drop, sym, refl, ap, ◌∙◌, arith}
 use Rattle.std.proofs.lemmas.List.{length_push}
 use Rattle.literals.specs.declared.Literal.{Literal}
-use Rattle.literals.specs.State.{under, chosen}
+use Rattle.literals.specs.State.{chosen}
 use Rattle.predecessor.specs.Made.{literals_of}
 use Rattle.predecessor.proofs.Loops.{added_more, added_all}
 use Rattle.predecessor.proofs.earlier.Earlier.push_chosen.Goals as goal

@@ -1,5 +1,5 @@
-use Rattle.std.proofs.Common.{◌≡◌, Ok, sym, ◌∙◌}
-use Rattle.reader.specs.declared.record.Record.TheVariants.{Head, Opening, Rule, Row, Moves, ObserverRow, Entry, End}
+use Rattle.std.proofs.Common.{sym, ◌∙◌}
+use Rattle.reader.specs.declared.record.Record.TheVariants.{Head, Opening, Rule, Row, Moves, ObserverRow, Entry}
 use Rattle.reader.specs.Drafted.{progress_of}
 use Rattle.reader.proofs.Taking.{taken}
 use Rattle.reader.proofs.draft.Draft.accept.Goals as goal

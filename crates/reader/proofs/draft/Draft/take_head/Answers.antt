@@ -1,4 +1,4 @@
-use Rattle.std.proofs.Common.{◌≡◌, Bool, false, ◌&&◌, eqb, get_or, sym, refl}
+use Rattle.std.proofs.Common.{◌≡◌, false, eqb, get_or, sym, refl}
 use Rattle.std.proofs.lemmas.Bool.{ne_eqb, and_left}
 use Rattle.reader.specs.declared.record.BookKind.TheVariants.{Counts}
 use Rattle.reader.proofs.draft.Draft.take_head.Goals as goal

@@ -1,6 +1,6 @@
-use Rattle.std.proofs.Common.{ℕ, List, vec_items, refl, ap}
+use Rattle.std.proofs.Common.{vec_items, refl}
 use Rattle.counts.specs.Data.{least_of}
-use Rattle.reader.specs.Progress.{advance, words}
+use Rattle.reader.specs.Progress.{words}
 use Rattle.reader.specs.Drafted.{progress_of}
 use Rattle.reader.proofs.Pushing.{pushed, row_added}
 use Rattle.reader.proofs.draft.Draft.take_row.Goals as goal

@@ -1,4 +1,4 @@
-use Rattle.std.proofs.Common.{◌≡◌, ℕ, List, take, drop, vec_items, refl, ap, ◌∙◌, arith, rules}
+use Rattle.std.proofs.Common.{◌≡◌, ℕ, List, take, drop, vec_items, refl, rules}
 use Rattle.counts.specs.Data.{transition_of}
 use Rattle.reader.specs.Drafted.{progress_of}
 use Rattle.reader.proofs.Pushing.{pushed, rule_added, parts_of}
