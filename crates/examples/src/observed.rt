@@ -38,8 +38,8 @@ fn lamp(heap: Global) -> Result<Counts, Fail> {
 /// An observer whose mode says which rule fired last: 0 none, 1 rule 0, 2 rule 1; it never
 /// comes to mode 3. Its row stands in one mode.
 fn watch<K: PatternKind + Drop>(heap: Global, below: K, row: Mode) -> Result<Observer<K>, Fail>
-    requires { valid below }
-    ensures { IfOk result (valid_of valid meaning book) }
+    requires { K.valid below }
+    ensures { IfOk result (valid_of K.valid K.meaning K.book) }
 {
     let mut moves = [Mode::One, Mode::One, Mode::One, Mode::Three].to_vec(heap)?;
     moves.extend_from_slice(&[Mode::Two, Mode::Two, Mode::Two, Mode::Three])?;
