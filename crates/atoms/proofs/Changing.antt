@@ -1,6 +1,6 @@
 -- What facts and effects make of the cells' state.
 use Rattle.std.proofs.Common.{◌≡◌, ℕ, ◌+◌, ◌*◌, ◌<◌, ◌≤◌, Bool, true, false, cond, not, ◌&&◌, ◌||◌, eqb, ltb, List, [], ◌∷◌, length, get_or, drop, set, Decides, sym, refl, ap, ◌∙◌, subst, arith}
-use Rattle.std.specs.List.{AllByRecursion as All}
+use Rattle.std.specs.List.{AllByRecursion}
 use Rattle.std.proofs.lemmas.List.{at_drop_more, at_drop_all, get_or-map, length-map}
 use Rattle.std.proofs.ByRecursion.{All-get_or}
 use Rattle.std.proofs.lemmas.Bool.{lt-ltb, both_ways}
@@ -151,7 +151,7 @@ module _ (choice : List ℕ) (effect : List Literal) (i : ℕ) (d : Literal) (h 
   here = under (λ x. get_or choice x 0) (get_or effect i d)
 
   module _ (k : Literal) (is : k ≡ here) where
-    pub gain_in : All GainIn (chosen choice effect) → (get_or effect i d).affirmed ≡ true → FactIn object_count k.fact
+    pub gain_in : AllByRecursion GainIn (chosen choice effect) → (get_or effect i d).affirmed ≡ true → FactIn object_count k.fact
     gain_in all on =
         let long : i < length (chosen choice effect) = rw length-map h in
         subst (λ (l : Literal). FactIn object_count l.fact) (sym is) (subst GainIn (get_or-map (under (λ x. get_or choice x 0)) effect i d here h) (All-get_or GainIn (chosen choice effect) i here long all) on)

@@ -1,6 +1,6 @@
 -- What a firing does, by what was found of the rule in the state.
 use Rattle.std.proofs.Common.{◌≡◌, ℕ, ◌<◌, List, length, get_or, Ok, Err, refl, inl, inr, arith}
-use Rattle.std.specs.List.{AllByRecursion as All}
+use Rattle.std.specs.List.{AllByRecursion}
 use Rattle.std.proofs.lemmas.List.{get_or_past}
 use Rattle.std.proofs.ByRecursion.{All-get_or, All-weaker, All-map}
 use Rattle.std.proofs.lemmas.Bool.{cases_lt}
@@ -16,7 +16,7 @@ use Rattle.atoms.specs.Cells.{GainIn}
 use Rattle.atoms.specs.Firing.{Checked, Fires}
 
 -- What a rule adds on held objects is in the model.
-object_at : (choice : List ℕ) → All (λ d. d < object_count) choice → (x : ℕ) → get_or choice x 0 < object_count
+object_at : (choice : List ℕ) → AllByRecursion (λ d. d < object_count) choice → (x : ℕ) → get_or choice x 0 < object_count
 object_at choice all x = elim (cases_lt x (length choice)) [
   | inl l ↦ All-get_or (λ d. d < object_count) choice x 0 l all
   | inr l ↦ omega (arith, get_or_past choice x 0 l)
@@ -28,7 +28,7 @@ fact_gains n f held (Binary b x y) h = (h.0, held x, held y)
 fact_gains n f held (From b x) h = (h.0, held x)
 fact_gains n f held (Into b x) h = (h.0, held x)
 
-pub effect_gains : (r : Transition) (choice : List ℕ) → RuleIn r → ChoiceHeld r choice → All GainIn (chosen choice r.effect)
+pub effect_gains : (r : Transition) (choice : List ℕ) → RuleIn r → ChoiceHeld r choice → AllByRecursion GainIn (chosen choice r.effect)
 effect_gains r choice ranged held =
     All-map GainIn (under (λ x. get_or choice x 0)) r.effect
     (All-weaker (LiteralIn r.variables) (λ l. GainIn (under (λ x. get_or choice x 0) l)) (λ l h _. fact_gains r.variables (λ x. get_or choice x 0) (object_at choice held.1) l.fact h) r.effect ranged.effect_in)

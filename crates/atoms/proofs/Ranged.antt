@@ -2,7 +2,7 @@
 use Rattle.std.proofs.Common.{◌≡◌, ℕ, ◌<◌, ◌≤◌, List, [], ◌∷◌, length}
 use mathlib.Core.Logic.{∥∥₁_elim}
 use denote.Struct.Props.{props}
-use Rattle.std.specs.List.{AllByRecursion as All}
+use Rattle.std.specs.List.{AllByRecursion}
 use Rattle.std.proofs.ByRecursion.{All-get_or}
 use Rattle.pattern.specs.Duty.{RulesAllowed, RowsAllowed}
 use Rattle.literals.specs.declared.Fact.{Fact}
@@ -15,7 +15,7 @@ use Rattle.atoms.specs.Fire.{Transition}
 use Rattle.atoms.specs.Book.{AtomsBook, rule_at, row_at}
 use Rattle.atoms.specs.Range.{AtomIn, FactIn, LiteralIn, Effective, EffectIn, RuleIn, RowIn, InRange}
 
-all_one : {X : Type 0} (P : X → Type 0) → ((x : X) → IsProp (P x)) → (xs : List X) → IsProp (All P xs)
+all_one : {X : Type 0} (P : X → Type 0) → ((x : X) → IsProp (P x)) → (xs : List X) → IsProp (AllByRecursion P xs)
 all_one P one [] p q = λ i. tt
 all_one P one (x ∷ xs) p q = λ i. (one x p.0 q.0 i, all_one P one xs p.1 q.1 i)
 
@@ -80,7 +80,7 @@ module _ (b : AtomsBook) where
     pub in_range : InRange b
     in_range = ∥∥₁_elim carried in_range_one (λ h. h)
 
-    pub opening_ranged : All AtomIn b.opening
+    pub opening_ranged : AllByRecursion AtomIn b.opening
     opening_ranged = in_range.opening_in
 
     pub rule_ranged : (rule : ℕ) (r : Transition) → rule < length b.rules → r ≡ rule_at b rule → RuleIn r

@@ -1,6 +1,6 @@
 -- Standing over all whole numbers, and the placements that are tried.
 use Rattle.std.proofs.Common.{◌≡◌, ℕ, ◌+◌, ◌<◌, ◌≤◌, Bool, true, false, ltb, ◌⊎◌, List, [], ◌∷◌, Decides, sym, refl, ap, ◌∙◌, inl, inr, arith}
-use Rattle.std.specs.List.{AllByRecursion as All}
+use Rattle.std.specs.List.{AllByRecursion}
 use Rattle.std.proofs.ByRecursion.{All-weaker, All-map}
 use Rattle.std.proofs.lemmas.Bool.{cases_lt, cases_order, cond-true, cond-false, lt-ltb, le-ltb, false≢true}
 use Rattle.literals.proofs.Listing.{all_unmapped}
@@ -83,7 +83,7 @@ own_different f n different i j hi hj e = elim (own_cases f i) [
 
 module _ (p : Pattern) (s : State) where
   -- A placement with every literal met, one variable after another.
-  from_different : (f : ℕ → ℕ) → Different p.variables f → All (λ l. Holds s (under f l)) p.literals → Placed p s p.variables f
+  from_different : (f : ℕ → ℕ) → Different p.variables f → AllByRecursion (λ l. Holds s (under f l)) p.literals → Placed p s p.variables f
   from_different f different all i h = (
     λ j g e. let same : j ≡ i = different j i (omega arith) h e in omega arith,
     All-weaker (λ l. Holds s (under f l)) (MetAt s f i) (λ l met _. met) p.literals all,
@@ -104,7 +104,7 @@ module _ (p : Pattern) (s : State) where
   last_in n (From b x) h = h.1
   last_in n (Into b x) h = h.1
 
-  all_met : (f : ℕ → ℕ) (n : ℕ) (ls : List Literal) → All (LiteralIn n) ls → ((i : ℕ) → i < n → All (MetAt s f i) ls) → All (λ l. Holds s (under f l)) ls
+  all_met : (f : ℕ → ℕ) (n : ℕ) (ls : List Literal) → AllByRecursion (LiteralIn n) ls → ((i : ℕ) → i < n → AllByRecursion (MetAt s f i) ls) → AllByRecursion (λ l. Holds s (under f l)) ls
   all_met f n [] ranged met = tt
   all_met f n (l ∷ ls) ranged met = ((met (last_variable l.fact) (last_in n l.fact ranged.0)).0 refl, all_met f n ls ranged.1 (λ i h. (met i h).1))
 

@@ -1,6 +1,6 @@
 -- A book of atoms as plain data: its opening state, rules and rows, and what its model holds.
 use Rattle.std.specs.Prelude.{◌≡◌, ℕ, ◌<◌, true, false, List, [], map, length, slice_index_or}
-use Rattle.std.specs.List.{AllByRecursion as All}
+use Rattle.std.specs.List.{AllByRecursion}
 use Rattle.literals.specs.declared.Fact.TheVariants.{Unary, Binary}
 use Rattle.literals.specs.declared.Literal.{Literal}
 use Rattle.literals.specs.State.{State}
@@ -43,7 +43,7 @@ pub record Held (s : State) : Type 0 where
 
 -- A choice that the model holds for a rule: one of its objects for each variable.
 abbrev pub ChoiceHeld : Transition → List ℕ → Type 0
-ChoiceHeld r choice = (length choice ≡ r.variables) × All (λ d. d < object_count) choice
+ChoiceHeld r choice = (length choice ≡ r.variables) × AllByRecursion (λ d. d < object_count) choice
 
 module _ (b : AtomsBook) where
   abbrev pub rule_at : ℕ → Transition

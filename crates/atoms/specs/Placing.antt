@@ -1,6 +1,6 @@
 -- Placing the variables of a pattern one after another.
 use Rattle.std.specs.Prelude.{◌≡◌, ℕ, ◌+◌, ◌<◌, Bool, true, false, cond, List, ◌≢◌, nat_lt, slice_index}
-use Rattle.std.specs.List.{AllByRecursion as All}
+use Rattle.std.specs.List.{AllByRecursion}
 use Rattle.literals.specs.declared.Literal.{Literal}
 use Rattle.literals.specs.State.{State, Holds, under, last_variable}
 use Rattle.atoms.specs.Book.{object_count}
@@ -17,7 +17,7 @@ MetAt s place i l = last_variable l.fact ≡ i → Holds s (under place l)
 module _ (p : Pattern) (s : State) where
   -- A variable fits beside those before it: on another object, and every literal of which it is the last variable holds.
   abbrev pub FitsAt : (ℕ → ℕ) → ℕ → Type 0
-  FitsAt place i = ((j : ℕ) → j < i → place j ≢ place i) × All (MetAt s place i) p.literals
+  FitsAt place i = ((j : ℕ) → j < i → place j ≢ place i) × AllByRecursion (MetAt s place i) p.literals
 
   -- So do the first k.
   abbrev pub Placed : ℕ → (ℕ → ℕ) → Type 0

@@ -1,6 +1,6 @@
 -- When plain data is a book of atoms: every number in its range, and no list too long.
 use Rattle.std.specs.Prelude.{◌≡◌, ℕ, ◌<◌, ◌≤◌, true, length}
-use Rattle.std.specs.List.{AllByRecursion as All}
+use Rattle.std.specs.List.{AllByRecursion}
 use Rattle.pattern.specs.Duty.{RulesAllowed, RowsAllowed}
 use Rattle.literals.specs.declared.Fact.{Fact}
 use Rattle.literals.specs.declared.Fact.TheVariants.{Unary, Binary, From, Into}
@@ -56,23 +56,23 @@ pub record RuleIn (r : Transition) : Type 0 where
   pub variables_in : r.variables ≤ most_rule_variables
   pub condition_short : length r.condition ≤ most_rule_literals
   pub effect_short : length r.effect ≤ most_rule_literals
-  pub condition_in : All (LiteralIn r.variables) r.condition
-  pub effect_in : All (LiteralIn r.variables) r.effect
-  pub effective : All EffectIn r.effect
+  pub condition_in : AllByRecursion (LiteralIn r.variables) r.condition
+  pub effect_in : AllByRecursion (LiteralIn r.variables) r.effect
+  pub effective : AllByRecursion EffectIn r.effect
 
 pub record RowIn (p : Pattern) : Type 0 where
   pub variables_in : p.variables ≤ most_row_variables
   pub literals_short : length p.literals ≤ most_row_literals
-  pub literals_in : All (LiteralIn p.variables) p.literals
+  pub literals_in : AllByRecursion (LiteralIn p.variables) p.literals
 
 -- The data is a book of atoms.
 pub record InRange (b : AtomsBook) : Type 0 where
   pub opening_short : length b.opening ≤ most_atoms
-  pub opening_in : All AtomIn b.opening
+  pub opening_in : AllByRecursion AtomIn b.opening
   pub rules_in : RulesAllowed (length b.rules)
   pub rows_in : RowsAllowed (length b.rows)
-  pub each_rule_in : All RuleIn b.rules
-  pub each_row_in : All RowIn b.rows
+  pub each_rule_in : AllByRecursion RuleIn b.rules
+  pub each_row_in : AllByRecursion RowIn b.rows
 
 -- The first ground on which it is refused.
 module _ (b : AtomsBook) where
@@ -80,7 +80,7 @@ module _ (b : AtomsBook) where
   OpeningShort = length b.opening ≤ most_atoms
 
   abbrev pub OpeningIn : Type 0
-  OpeningIn = All AtomIn b.opening
+  OpeningIn = AllByRecursion AtomIn b.opening
 
   abbrev pub RulesIn : Type 0
   RulesIn = RulesAllowed (length b.rules)
@@ -93,5 +93,5 @@ module _ (b : AtomsBook) where
   RefusedBy OpeningRange = OpeningShort × (OpeningIn → ⊥)
   RefusedBy Rules = OpeningShort × OpeningIn × (RulesIn → ⊥)
   RefusedBy Rows = OpeningShort × OpeningIn × RulesIn × (RowsIn → ⊥)
-  RefusedBy RuleRange = OpeningShort × OpeningIn × RulesIn × RowsIn × (All RuleIn b.rules → ⊥)
-  RefusedBy RowRange = OpeningShort × OpeningIn × RulesIn × RowsIn × All RuleIn b.rules × (All RowIn b.rows → ⊥)
+  RefusedBy RuleRange = OpeningShort × OpeningIn × RulesIn × RowsIn × (AllByRecursion RuleIn b.rules → ⊥)
+  RefusedBy RowRange = OpeningShort × OpeningIn × RulesIn × RowsIn × AllByRecursion RuleIn b.rules × (AllByRecursion RowIn b.rows → ⊥)

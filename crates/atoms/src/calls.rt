@@ -1,5 +1,5 @@
 ghost use Rattle.std.specs.Prelude.{◌≡◌, ◌<◌, ◌≤◌, length, Err, Decides, MatchOption, ◌≢◌};
-ghost use Rattle.std.specs.List.{AllByRecursion as All};
+ghost use Rattle.std.specs.List.{AllByRecursion};
 ghost use Rattle.pattern.specs.declared.FireRefusal.TheVariants.{BeyondModel};
 ghost use Rattle.atoms.specs.Book.{just, rule_at, row_at, StandsOf};
 ghost use Rattle.atoms.specs.Range.{AtomIn};
@@ -111,7 +111,7 @@ impl Book {
 impl Cells {
     /// The state of just these atoms.
     fn of(atoms: &[Atom]) -> Cells
-        requires { All AtomIn atoms.now }
+        requires { AllByRecursion AtomIn atoms.now }
         ensures { state_of result ≡ just atoms.now }
     {
         let mut cells = Cells::new();

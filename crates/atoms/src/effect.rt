@@ -3,7 +3,7 @@ ghost use Rattle.literals.specs.declared.Fact.TheVariants.{Unary as UnaryFact, B
 ghost use Rattle.atoms.specs.Book.{object_count, affirmed};
 ghost use Rattle.atoms.specs.Range.{AtomIn, FactIn};
 ghost use Rattle.literals.specs.State.{chosen};
-ghost use Rattle.std.specs.List.{AllByRecursion as All};
+ghost use Rattle.std.specs.List.{AllByRecursion};
 ghost use Rattle.atoms.specs.Fire.{after};
 ghost use Rattle.atoms.specs.Cells.{state_of, gains, loses, gained, lost, GainIn};
 
@@ -98,7 +98,7 @@ impl Cells {
 
     /// Adds the atoms that an effect affirms of the chosen objects.
     fn gain_all(&mut self, effect: &[Literal], choice: &[u8])
-        requires { All GainIn (chosen choice.now effect.now) }
+        requires { AllByRecursion GainIn (chosen choice.now effect.now) }
         ensures { state_of self.new ≡ gained (chosen choice.now effect.now) (state_of self.old) }
     {
         for literal in effect {
@@ -121,7 +121,7 @@ impl Cells {
 
     /// What an effect makes of the state: it adds first, and then takes away.
     pub(crate) fn change(&mut self, effect: &[Literal], choice: &[u8])
-        requires { All GainIn (chosen choice.now effect.now) }
+        requires { AllByRecursion GainIn (chosen choice.now effect.now) }
         ensures { state_of self.new ≡ after (chosen choice.now effect.now) (state_of self.old) }
     {
         self.gain_all(effect, choice);

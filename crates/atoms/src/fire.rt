@@ -1,5 +1,5 @@
 ghost use Rattle.std.specs.Prelude.{◌<◌, Decides};
-ghost use Rattle.std.specs.List.{AllByRecursion as All};
+ghost use Rattle.std.specs.List.{AllByRecursion};
 ghost use Rattle.literals.specs.State.{AllHold, chosen};
 ghost use Rattle.atoms.specs.Book.{ChoiceHeld, object_count};
 ghost use Rattle.atoms.specs.Range.{RuleIn};
@@ -63,7 +63,7 @@ impl Cells {
 
 /// Whether each is an object of the model.
 fn are_objects(choice: &[u8]) -> bool
-    ensures { Decides result (All (λ d. d < object_count) choice.now) }
+    ensures { Decides result (AllByRecursion (λ d. d < object_count) choice.now) }
 {
     for object in choice {
         if *object >= OBJECTS {

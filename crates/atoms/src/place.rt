@@ -1,5 +1,5 @@
 ghost use Rattle.std.specs.Prelude.{◌≡◌, ℕ, ◌<◌, ◌≤◌, length, Decides, ◌≢◌};
-ghost use Rattle.std.specs.List.{AllByRecursion as All};
+ghost use Rattle.std.specs.List.{AllByRecursion};
 ghost use Rattle.atoms.specs.Pattern.{StandsIn};
 ghost use Rattle.atoms.specs.Range.{RowIn, most_row_variables};
 ghost use Rattle.atoms.specs.Data.{pattern_of};
@@ -53,7 +53,7 @@ impl Row {
 
     /// Whether the literals hold of which this is the last variable.
     fn literals_hold(&self, cells: &Cells, placed: &[u8], variable: u8) -> bool
-        ensures { Decides result (All (MetAt (state_of cells.now) (at placed.now) variable) self.now.literals.items) }
+        ensures { Decides result (AllByRecursion (MetAt (state_of cells.now) (at placed.now) variable) self.now.literals.items) }
     {
         for literal in self.literals.iter() {
             if literal.fact.last_variable() == variable && !cells.holds(literal.under(placed)) {

@@ -1,5 +1,5 @@
 ghost use Rattle.std.specs.Prelude.{◌≡◌, ◌<◌, ◌≤◌, length, Decides, MatchResult};
-ghost use Rattle.std.specs.List.{AllByRecursion as All};
+ghost use Rattle.std.specs.List.{AllByRecursion};
 ghost use Rattle.atoms.specs.Range.{AtomIn, FactIn, LiteralIn, EffectIn, RuleIn, RowIn, InRange, RefusedBy, most_rule_variables, most_rule_literals};
 ghost use Rattle.atoms.specs.Data.{transition_of, pattern_of, book_of};
 
@@ -63,7 +63,7 @@ impl Book {
 
     /// Whether every rule is in range.
     fn rules_in_range(&self) -> bool
-        ensures { Decides result (All RuleIn (book_of self.now).rules) }
+        ensures { Decides result (AllByRecursion RuleIn (book_of self.now).rules) }
     {
         for rule in self.rules.iter() {
             if !rule.in_range() {
@@ -75,7 +75,7 @@ impl Book {
 
     /// Whether every row is in range.
     fn rows_in_range(&self) -> bool
-        ensures { Decides result (All RowIn (book_of self.now).rows) }
+        ensures { Decides result (AllByRecursion RowIn (book_of self.now).rows) }
     {
         for row in self.rows.iter() {
             if !row.in_range() {
@@ -136,7 +136,7 @@ impl Atom {
 
 /// Whether every atom is one of a model's relations and objects.
 fn atoms_in_range(atoms: &[Atom]) -> bool
-    ensures { Decides result (All AtomIn atoms.now) }
+    ensures { Decides result (AllByRecursion AtomIn atoms.now) }
 {
     for atom in atoms {
         if !atom.in_range() {
@@ -159,7 +159,7 @@ fn fact_in_range(fact: Fact, variables: u8) -> bool
 
 /// Whether every literal is one of a model's relations over so many variables.
 fn literals_in_range(literals: &[Literal], variables: u8) -> bool
-    ensures { Decides result (All (LiteralIn variables) literals.now) }
+    ensures { Decides result (AllByRecursion (LiteralIn variables) literals.now) }
 {
     for literal in literals {
         if !fact_in_range(literal.fact, variables) {
@@ -181,7 +181,7 @@ fn is_effective(literal: Literal) -> bool
 
 /// Whether every literal can stand in an effect.
 fn are_effective(effect: &[Literal]) -> bool
-    ensures { Decides result (All EffectIn effect.now) }
+    ensures { Decides result (AllByRecursion EffectIn effect.now) }
 {
     for literal in effect {
         if !is_effective(*literal) {

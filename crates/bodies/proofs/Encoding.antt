@@ -1,6 +1,6 @@
 -- Literals, atoms, rules and rows, read and written, and written and read.
 use Rattle.std.proofs.Common.{◌≡◌, ℕ, suc, ◌+◌, ◌-◌, ◌*◌, ◌/◌, ◌%◌, ◌<◌, ◌≤◌, Bool, true, false, ◌&&◌, eqb, ltb, leb, List, [], ◌∷◌, ◌++◌, length, get_or, drop, sym, refl, ap, ◌∙◌, inl, inr, arith}
-use Rattle.std.specs.List.{flat_map, AllByRecursion as All}
+use Rattle.std.specs.List.{flat_map, AllByRecursion}
 use Rattle.std.proofs.ByRecursion.{All-weaker}
 use Rattle.std.proofs.lemmas.List.{length-append, length-drop, drop_more, take_at, drop_at, take-append-drop}
 use Rattle.std.proofs.lemmas.Bool.{and_parts, and_from, or_left, eqb-true, eq-eqb, leb-true, le-leb, lt-ltb}
@@ -35,7 +35,7 @@ first_two b h = ap (λ (w : List ℕ). get_or b 0 0 ∷ w) (sym (drop_more b 1 0
 pub first_three : (b : List ℕ) → 3 ≤ length b → get_or b 0 0 ∷ get_or b 1 0 ∷ get_or b 2 0 ∷ drop 3 b ≡ b
 first_three b h = ap (λ (w : List ℕ). get_or b 0 0 ∷ get_or b 1 0 ∷ w) (sym (drop_more b 2 0 (omega arith))) ∙ first_two b (omega arith)
 
-all_both : {X : Type 0} (P Q R : X → Type 0) → ((x : X) → P x → Q x → R x) → (xs : List X) → All P xs → All Q xs → All R xs
+all_both : {X : Type 0} (P Q R : X → Type 0) → ((x : X) → P x → Q x → R x) → (xs : List X) → AllByRecursion P xs → AllByRecursion Q xs → AllByRecursion R xs
 all_both P Q R each [] p q = tt
 all_both P Q R each (x ∷ xs) p q = (each x p.0 q.0, all_both P Q R each xs p.1 q.1)
 
@@ -62,7 +62,7 @@ module _ {X : Type 0} (f : ℕ → ℕ → ℕ → ℕ → X) (p : ℕ → ℕ �
     says : each_four f (flat_map bytes_of xs) ≡ xs
     ranges : all_four p (flat_map bytes_of xs) ≡ true
 
-  read_each : (xs : List X) → All Four xs → Read xs
+  read_each : (xs : List X) → AllByRecursion Four xs → Read xs
   read_each [] h = record { long = refl; says = refl; ranges = refl }
   read_each (x ∷ xs) h =
       let rest : List ℕ = flat_map bytes_of xs in
@@ -150,10 +150,10 @@ atom_four (atom.Binary b d e) h =
 literals_written : (role : Role) (n many : ℕ) (b : List ℕ) → length b ≡ 4 * many → literals_in role n b ≡ true → flat_map literal_bytes (literals_of b) ≡ b
 literals_written role n = written_each literal_of (literal_in role n) literal_bytes (literal_written role n)
 
-conditions_read : (n : ℕ) (ls : List Literal) → All (LiteralIn n) ls → Read literal_of (literal_in Condition n) literal_bytes ls
+conditions_read : (n : ℕ) (ls : List Literal) → AllByRecursion (LiteralIn n) ls → Read literal_of (literal_in Condition n) literal_bytes ls
 conditions_read n ls h = read_each literal_of (literal_in Condition n) literal_bytes ls (All-weaker (LiteralIn n) (Four literal_of (literal_in Condition n) literal_bytes) (λ l p. literal_four Condition n l p refl) ls h)
 
-effects_read : (n : ℕ) (ls : List Literal) → All (LiteralIn n) ls → All EffectIn ls → Read literal_of (literal_in Effect n) literal_bytes ls
+effects_read : (n : ℕ) (ls : List Literal) → AllByRecursion (LiteralIn n) ls → AllByRecursion EffectIn ls → Read literal_of (literal_in Effect n) literal_bytes ls
 effects_read n ls h e = read_each literal_of (literal_in Effect n) literal_bytes ls (all_both (LiteralIn n) EffectIn (Four literal_of (literal_in Effect n) literal_bytes) (λ l p q. literal_four Effect n l p (effect_allowed l.fact l.affirmed q)) ls h e)
 
 -- Openings, rules and rows, read and written.
@@ -186,7 +186,7 @@ row_written b f r =
     (λ i. m ∷ many i ∷ all i) ∙ first_two b (omega (arith, row_long b f))
 
 -- And written and read.
-pub opening_read : (atoms : List Atom) → length atoms ≤ most_atoms → All AtomIn atoms → (opening_fits (flat_map atom_bytes atoms) ≡ true) × (atoms_in (flat_map atom_bytes atoms) ≡ true) × (atoms_of (flat_map atom_bytes atoms) ≡ atoms)
+pub opening_read : (atoms : List Atom) → length atoms ≤ most_atoms → AllByRecursion AtomIn atoms → (opening_fits (flat_map atom_bytes atoms) ≡ true) × (atoms_in (flat_map atom_bytes atoms) ≡ true) × (atoms_of (flat_map atom_bytes atoms) ≡ atoms)
 opening_read atoms short h =
     let b : List ℕ = flat_map atom_bytes atoms in
     let is = read_each atom_of atom_in atom_bytes atoms (All-weaker AtomIn (Four atom_of atom_in atom_bytes) atom_four atoms h) in

@@ -1,6 +1,6 @@
 -- What bodies in range say is in range.
 use Rattle.std.proofs.Common.{◌≡◌, ℕ, suc, ◌+◌, ◌-◌, ◌*◌, ◌/◌, ◌%◌, ◌<◌, ◌≤◌, Bool, true, ◌&&◌, eqb, ltb, leb, ◌⊎◌, List, [], ◌∷◌, length, get_or, drop, sym, subst, inl, inr, arith}
-use Rattle.std.specs.List.{AllByRecursion as All}
+use Rattle.std.specs.List.{AllByRecursion}
 use Rattle.std.proofs.lemmas.List.{length-take-le, length-drop}
 use Rattle.std.proofs.lemmas.Bool.{and_parts, or_cases, eqb-true, leb-true, ltb-true, false≢true, cond-true, cond-false, ne_eqb}
 use Rattle.literals.specs.declared.LiteralKind.{LiteralKind}
@@ -24,7 +24,7 @@ length_each f n (a ∷ b ∷ c ∷ []) h = absurd (let odd : suc (suc (suc 0)) �
 length_each f n (a ∷ b ∷ c ∷ d ∷ bytes) h = let rest : length bytes ≡ 4 * (n - 1) = (let long : suc (suc (suc (suc (length bytes)))) ≡ 4 * n = h in omega arith) in omega (arith, length_each f (n - 1) bytes rest)
 
 -- What holds of each four that are in range holds of all.
-all_each : {X : Type 0} (P : X → Type 0) (p : ℕ → ℕ → ℕ → ℕ → Bool) (f : ℕ → ℕ → ℕ → ℕ → X) → ((a b c d : ℕ) → p a b c d ≡ true → P (f a b c d)) → (bytes : List ℕ) → all_four p bytes ≡ true → All P (each_four f bytes)
+all_each : {X : Type 0} (P : X → Type 0) (p : ℕ → ℕ → ℕ → ℕ → Bool) (f : ℕ → ℕ → ℕ → ℕ → X) → ((a b c d : ℕ) → p a b c d ≡ true → P (f a b c d)) → (bytes : List ℕ) → all_four p bytes ≡ true → AllByRecursion P (each_four f bytes)
 all_each P p f each [] h = tt
 all_each P p f each (a ∷ []) h = tt
 all_each P p f each (a ∷ b ∷ []) h = tt
@@ -63,10 +63,10 @@ effect_well n k r x y h =
     let kind = and_parts (kind_in Effect k) (ltb r relation_count && (ltb x n && second_in (kind_numbered k) n y)) h in
     shaped_effect (kind_numbered k) r x y (and_parts (leb k 7) (allows Effect (kind_numbered k)) kind.0).1
 
-pub literals_well : (role : Role) (n : ℕ) (bytes : List ℕ) → literals_in role n bytes ≡ true → All (LiteralIn n) (literals_of bytes)
+pub literals_well : (role : Role) (n : ℕ) (bytes : List ℕ) → literals_in role n bytes ≡ true → AllByRecursion (LiteralIn n) (literals_of bytes)
 literals_well role n = all_each (LiteralIn n) (literal_in role n) literal_of (literal_well role n)
 
-effects_well : (n : ℕ) (bytes : List ℕ) → literals_in Effect n bytes ≡ true → All EffectIn (literals_of bytes)
+effects_well : (n : ℕ) (bytes : List ℕ) → literals_in Effect n bytes ≡ true → AllByRecursion EffectIn (literals_of bytes)
 effects_well n = all_each EffectIn (literal_in Effect n) literal_of (effect_well n)
 
 -- Four bytes that are an atom are one of one object, or of two.
@@ -89,7 +89,7 @@ atom_well : (k r d e : ℕ) → atom_in k r d e ≡ true → AtomIn (atom_of k r
 atom_well k r d e h = elim (atom_cases k r d e h) [ inl one ↦ subst AtomIn (sym one.2) one.3 | inr two ↦ subst AtomIn (sym two.1) two.2 ]
 
 -- An opening that fits has at most 24 atoms, and each is in range.
-pub opening_well : (b : List ℕ) → opening_fits b ≡ true → atoms_in b ≡ true → (length (atoms_of b) ≤ most_atoms) × All AtomIn (atoms_of b)
+pub opening_well : (b : List ℕ) → opening_fits b ≡ true → atoms_in b ≡ true → (length (atoms_of b) ≤ most_atoms) × AllByRecursion AtomIn (atoms_of b)
 opening_well b f r =
     let parts = and_parts (eqb (length b % 4) 0) (leb (length b) (4 * most_atoms)) f in
     let whole = eqb-true (length b % 4) 0 parts.0 in

@@ -73,7 +73,7 @@ fn judged(heap: Global, book: &Counts, rows: &[usize]) -> Result<Result<(), Tabl
 /// A refusal at the first case, with the first entry.
 fn first(ground: TableGround) -> Result<(), TableRefusal> {
     Err(TableRefusal {
-        ground,
+        reason: ground,
         case: first_case(0),
         entry: 0,
     })

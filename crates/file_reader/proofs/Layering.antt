@@ -1,6 +1,6 @@
 -- Observers that are read one over the other, the topmost row by row.
 use Rattle.std.proofs.Common.{◌≡◌, ℕ, ◌*◌, ◌<◌, ◌≤◌, List, [], ◌∷◌, ◌++◌, length, refl, arith}
-use Rattle.std.specs.List.{AllByRecursion as All}
+use Rattle.std.specs.List.{AllByRecursion}
 use Rattle.std.proofs.ByRecursion.{All-push}
 use Rattle.std.proofs.lemmas.List.{length_push}
 use Rattle.pattern.specs.Duty.{most_rows}
@@ -13,7 +13,7 @@ use Rattle.file_reader.specs.Dossier.{LayerIn, LayersIn}
 -- The topmost observer may have no rows yet.
 abbrev pub Begun : ℕ → ℕ → List Layer → Type 0
 Begun rules rows [] = Unit {0}
-Begun rules rows (l ∷ []) = (length l.moves ≡ rules * mode_count) × (length l.rows ≤ most_rows) × All (λ r. r.below < rows) l.rows
+Begun rules rows (l ∷ []) = (length l.moves ≡ rules * mode_count) × (length l.rows ≤ most_rows) × AllByRecursion (λ r. r.below < rows) l.rows
 Begun rules rows (l ∷ m ∷ ls) = LayerIn rules rows l × Begun rules (length l.rows) (m ∷ ls)
 
 pub one_more_layer : (rules rows : ℕ) (ls : List Layer) (moves : List Mode) → length moves ≡ rules * mode_count → LayersIn rules rows ls → Begun rules rows (ls ++ record { moves = moves; rows = [] } ∷ [])

@@ -54,7 +54,7 @@ of_unended section.Entries n = refl
 of_unended section.End n = absurd (n refl)
 
 fault : FormGround → ℕ → Option (Result Progress FormFault)
-fault g p = Some (Err (record { ground = g; place = p }))
+fault g p = Some (Err (record { reason = g; place = p }))
 
 module _ (bytes : List ℕ) where
   -- What a record of a kind comes to: a fault, or nothing yet.
@@ -140,7 +140,7 @@ module _ (bytes : List ℕ) where
     verdict_from (Err f) w = faulty_from w
 
   -- A file that is too long has that fault alone.
-  long_only : most_bytes < length bytes → (v : Result Progress FormFault) → Verdict bytes v → v ≡ Err (record { ground = ground.TooLong; place = 0 })
+  long_only : most_bytes < length bytes → (v : Result Progress FormFault) → Verdict bytes v → v ≡ Err (record { reason = ground.TooLong; place = 0 })
   long_only h (Ok g) w = absurd (omega (arith, w.short))
   long_only h (Err f) (too_long _) = refl
   long_only h (Err f) (cut_short s _ _ _) = absurd (omega arith)
@@ -152,6 +152,6 @@ module _ (bytes : List ℕ) where
 
   pub one_verdict : OneVerdict bytes
   one_verdict = elim (cases_lt most_bytes (length bytes)) [
-    | inl h ↦ record { verdict = Err (record { ground = ground.TooLong; place = 0 }); comes = too_long h; alone = long_only h }
+    | inl h ↦ record { verdict = Err (record { reason = ground.TooLong; place = 0 }); comes = too_long h; alone = long_only h }
     | inr h ↦ let v = comes_to bytes h in record { verdict = v.0; comes = v.1; alone = λ other w. from_one (verdict_from h other w) (verdict_from h v.0 v.1) }
   ]

@@ -1,6 +1,6 @@
 -- A file is read on over records that it has next: over one, and over a list of items with a record or more for each.
 use Rattle.std.proofs.Common.{◌≡◌, ℕ, ◌+◌, ◌<◌, ◌≤◌, true, false, List, [], ◌∷◌, ◌++◌, length, get_or, drop, sym, refl, ap, ◌∙◌, subst, arith}
-use Rattle.std.specs.List.{flat_map, AllByRecursion as All}
+use Rattle.std.specs.List.{flat_map, AllByRecursion}
 use Rattle.std.proofs.ByRecursion.{All-get_or}
 use Rattle.std.proofs.lemmas.List.{append-nil, append_assoc, length-append, drop_at, get_or_at}
 use Rattle.std.proofs.lemmas.Bool.{and_parts, both_ways}
@@ -102,5 +102,5 @@ module _ {X : Type 0} (whole done : List X) (x : X) (todo : List X) (e : whole �
   pub this_item : (d : X) → get_or whole (length done) d ≡ x
   this_item d = ap (λ (xs : List X). get_or xs (length done) d) e ∙ get_or_at done x todo d (length done) refl
 
-  pub all_this : (Q : X → Type 0) → All Q whole → Q x
+  pub all_this : (Q : X → Type 0) → AllByRecursion Q whole → Q x
   all_this Q h = subst Q (this_item x) (All-get_or Q whole (length done) x fewer h)

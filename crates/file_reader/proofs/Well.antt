@@ -1,6 +1,6 @@
 -- What a file holds so far is in range, section by section.
 use Rattle.std.proofs.Common.{◌≡◌, ℕ, suc, ◌+◌, ◌-◌, ◌*◌, ◌≤◌, true, ◌&&◌, eqb, leb, List, [], ◌∷◌, map, length, get_or, take, drop, sym, refl, ap, ◌∙◌, subst, inl, inr, mul_comm, arith}
-use Rattle.std.specs.List.{AllByRecursion as All}
+use Rattle.std.specs.List.{AllByRecursion}
 use Rattle.std.proofs.ByRecursion.{All-get_or, All-push, All-take, All-drop}
 use Rattle.std.proofs.lemmas.List.{length_push, length-take-le, length-drop, length-map, nil_from_length}
 use Rattle.std.proofs.lemmas.Bool.{and_parts, or_cases, eqb-true, leb-true, ltb-true, ne_eqb, cond-true, cond-false}
@@ -35,15 +35,15 @@ PlacesWell n (atomic _) = n ≡ 0
 
 abbrev pub OpeningWell : ℕ → Book → Type 0
 OpeningWell n (counted b) = (length b.opening ≡ n) × Words b.opening
-OpeningWell n (atomic b) = (length b.opening ≤ most_atoms) × All AtomIn b.opening
+OpeningWell n (atomic b) = (length b.opening ≤ most_atoms) × AllByRecursion AtomIn b.opening
 
 abbrev pub RulesWell : ℕ → Book → Type 0
-RulesWell n (counted b) = All (RuleFits n) b.rules × All TransitionFits b.rules
-RulesWell n (atomic b) = All RuleIn b.rules
+RulesWell n (counted b) = AllByRecursion (RuleFits n) b.rules × AllByRecursion TransitionFits b.rules
+RulesWell n (atomic b) = AllByRecursion RuleIn b.rules
 
 abbrev pub RowsWell : ℕ → Book → Type 0
-RowsWell n (counted b) = All (RowFits n) b.rows × All Words b.rows
-RowsWell n (atomic b) = All RowIn b.rows
+RowsWell n (counted b) = AllByRecursion (RowFits n) b.rows × AllByRecursion Words b.rows
+RowsWell n (atomic b) = AllByRecursion RowIn b.rows
 
 module _ (g : Progress) where
   abbrev pub NoLayers : Type 0
@@ -79,8 +79,8 @@ module _ (g : Progress) where
   WellAt section.Rows = Rowed × NoLayers
   WellAt section.Moves = Rowed × Begun (rule_count g.book) (row_count g.book) g.layers × (length g.layers ≤ g.observers) × (g.entries ≡ [])
   WellAt section.ObserverRows = Rowed × Layered × (length g.layers ≤ g.observers) × (g.entries ≡ [])
-  WellAt section.Entries = Rowed × Layered × (length g.layers ≡ g.observers) × All ClaimFits g.entries
-  WellAt section.End = Rowed × Layered × (length g.layers ≡ g.observers) × All ClaimFits g.entries
+  WellAt section.Entries = Rowed × Layered × (length g.layers ≡ g.observers) × AllByRecursion ClaimFits g.entries
+  WellAt section.End = Rowed × Layered × (length g.layers ≡ g.observers) × AllByRecursion ClaimFits g.entries
 
 -- Words of bytes are half as many, and each fits.
 pub length_words : (n : ℕ) (b : List ℕ) → length b ≡ 2 * n → length (words b) ≡ n
@@ -93,7 +93,7 @@ words_fit [] h = tt
 words_fit (low ∷ []) h = tt
 words_fit (low ∷ high ∷ b) h = (omega (arith, h.0, h.1.0), words_fit b h.1.1)
 
-all_none : {X : Type 0} (P : X → Type 0) (xs : List X) → xs ≡ [] → All P xs
+all_none : {X : Type 0} (P : X → Type 0) (xs : List X) → xs ≡ [] → AllByRecursion P xs
 all_none P xs e = rw e tt
 
 -- A book with no rules, or no rows, has none that is not in range.
@@ -242,7 +242,7 @@ module _ (g : Progress) (b : List ℕ) (octets : Bytes b) where
       let parts = and_parts _ _ w in
       (rowed, one_more_row (rule_count g.book) (row_count g.book) g.layers added begun (ltb-true _ _ r) (ltb-true _ _ parts.0), omega (arith, as_many_layers g.layers added), none)
 
-  entry_taken : long g kind.Entry b ≡ true → Rowed g → Layered g → length g.layers ≡ g.observers → All ClaimFits g.entries → WellAt (advance g kind.Entry b) section.Entries
+  entry_taken : long g kind.Entry b ≡ true → Rowed g → Layered g → length g.layers ≡ g.observers → AllByRecursion ClaimFits g.entries → WellAt (advance g kind.Entry b) section.Entries
   entry_taken l rowed layered whole fit =
       let parts = and_parts (leb 1 (length b)) (leb (length b) (1 + most_matching)) l in
       let some = leb-true 1 (length b) parts.0 in

@@ -1,6 +1,6 @@
 -- A dossier as plain data, and when its numbers are in range.
 use Rattle.std.specs.Prelude.{◌≡◌, ℕ, ◌*◌, ◌<◌, ◌≤◌, List, [], ◌∷◌, length}
-use Rattle.std.specs.List.{AllByRecursion as All}
+use Rattle.std.specs.List.{AllByRecursion}
 use Rattle.pattern.specs.Duty.{RowsAllowed}
 use Rattle.counts.specs.Counted.{Transition}
 use Rattle.counts.specs.Range as counts
@@ -23,10 +23,10 @@ dossier_of g = record { book = g.book; layers = g.layers; entries = g.entries }
 
 -- Numbers of one byte, and of two.
 abbrev pub Bytes : List ℕ → Type 0
-Bytes = All (λ n. n ≤ 255)
+Bytes = AllByRecursion (λ n. n ≤ 255)
 
 abbrev pub Words : List ℕ → Type 0
-Words = All (λ n. n ≤ 65535)
+Words = AllByRecursion (λ n. n ≤ 65535)
 
 abbrev pub TransitionFits : Transition → Type 0
 TransitionFits t = Bytes t.takes × Bytes t.gives
@@ -36,7 +36,7 @@ ClaimFits e = (e.row ≤ 255) × (length e.matching ≤ most_matching) × Bytes 
 
 -- An observer over so many rules and rows: four modes for each rule, 1 to 64 rows, each over one of those below.
 abbrev pub LayerIn : ℕ → ℕ → Layer → Type 0
-LayerIn rules rows l = (length l.moves ≡ rules * mode_count) × RowsAllowed (length l.rows) × All (λ r. r.below < rows) l.rows
+LayerIn rules rows l = (length l.moves ≡ rules * mode_count) × RowsAllowed (length l.rows) × AllByRecursion (λ r. r.below < rows) l.rows
 
 -- Observers, one over the other.
 abbrev pub LayersIn : ℕ → ℕ → List Layer → Type 0
@@ -45,7 +45,7 @@ LayersIn rules rows (l ∷ ls) = LayerIn rules rows l × LayersIn rules (length 
 
 -- The book is one of its kind, and its numbers fit their fields; those of atoms then do.
 abbrev pub BookIn : Book → Type 0
-BookIn (counted b) = counts.InRange b × Words b.opening × All TransitionFits b.rules × All Words b.rows
+BookIn (counted b) = counts.InRange b × Words b.opening × AllByRecursion TransitionFits b.rules × AllByRecursion Words b.rows
 BookIn (atomic b) = atoms.InRange b
 
 -- Every number of the dossier is in its range.
@@ -53,4 +53,4 @@ pub record InRange (d : Dossier) : Type 0 where
   pub book_in : BookIn d.book
   pub few_layers : length d.layers ≤ observers_number Two
   pub layers_in : LayersIn (rule_count d.book) (row_count d.book) d.layers
-  pub entries_fit : All ClaimFits d.entries
+  pub entries_fit : AllByRecursion ClaimFits d.entries

@@ -58,7 +58,7 @@ module _ {S : Type 0} (m : Meaning S) where
 
   first_one : (table : List Claim) {f g : TableRefusal} → FirstFailure m table f → FirstFailure m table g → f ≡ g
   first_one table (row_stands {row = a} h before at) (row_stands {row = b} h' before' at') =
-      ap (λ (n : ℕ). record { ground = RowStands; case = record { row = n; rule = 0; number = 0 }; entry = 0 }) (lowest (λ r. m.Stands r m.opening) a b before at before' at')
+      ap (λ (n : ℕ). record { reason = RowStands; case = record { row = n; rule = 0; number = 0 }; entry = 0 }) (lowest (λ r. m.Stands r m.opening) a b before at before' at')
   first_one table (row_stands {row = a} h before at) (in_walk clear w) = absurd (clear a h at)
   first_one table (in_walk clear w) (row_stands {row = a} h before at) = absurd (clear a h at)
   first_one table (in_walk clear w) (in_walk clear' w') = fails_one w w'
@@ -78,26 +78,26 @@ module _ {S : Type 0} (m : Meaning S) where
   verdict table r a = record { judged = a; alone = λ q. one_answer table r q a }
 
   -- The verdict where a row stands in the opening state,
-  pub stands_verdict : (table : List Claim) (row : ℕ) → LowestStanding m (Some row) → Verdict m table (Err (record { ground = RowStands; case = record { row = row; rule = 0; number = 0 }; entry = 0 }))
-  stands_verdict table row w = verdict table (Err (record { ground = RowStands; case = record { row = row; rule = 0; number = 0 }; entry = 0 })) (row_stands w.0 w.1 w.2)
+  pub stands_verdict : (table : List Claim) (row : ℕ) → LowestStanding m (Some row) → Verdict m table (Err (record { reason = RowStands; case = record { row = row; rule = 0; number = 0 }; entry = 0 }))
+  stands_verdict table row w = verdict table (Err (record { reason = RowStands; case = record { row = row; rule = 0; number = 0 }; entry = 0 })) (row_stands w.0 w.1 w.2)
 
   -- where the walk fails,
   pub walk_verdict : (table : List Claim) (f : TableRefusal) → Clear m m.opening → Walked m table (Err f) → Verdict m table (Err f)
   walk_verdict table f clear w = verdict table (Err f) (in_walk clear w)
 
-  fails_left_over : {cs : List Case} {es : List Claim} (n : ℕ) (e : Claim) (fs : List Claim) → Cover m cs es → Fails m n cs (es ++ e ∷ fs) (record { ground = LeftOver; case = record { row = 0; rule = 0; number = 0 }; entry = n + length es })
+  fails_left_over : {cs : List Case} {es : List Claim} (n : ℕ) (e : Claim) (fs : List Claim) → Cover m cs es → Fails m n cs (es ++ e ∷ fs) (record { reason = LeftOver; case = record { row = 0; rule = 0; number = 0 }; entry = n + length es })
   fails_left_over n e fs none = rw add-zero left_over
   fails_left_over n e fs (next {es = es} r w) =
       let more : n + suc (length es) ≡ n + 1 + length es = omega arith in
       later r (rw more (fails_left_over (n + 1) e fs w))
 
   -- where claims are left over,
-  pub left_over_verdict : (table : List Claim) (used : ℕ) → Clear m m.opening → Walked m table (Ok used) → used < length table → Verdict m table (Err (record { ground = LeftOver; case = record { row = 0; rule = 0; number = 0 }; entry = used }))
+  pub left_over_verdict : (table : List Claim) (used : ℕ) → Clear m m.opening → Walked m table (Ok used) → used < length table → Verdict m table (Err (record { reason = LeftOver; case = record { row = 0; rule = 0; number = 0 }; entry = used }))
   left_over_verdict table used clear w h =
       let d : Claim = record { row = 0; matching = [] } in
       let whole : take used table ++ get_or table used d ∷ drop (used + 1) table ≡ table = ap (λ (es : List Claim). take used table ++ es) (sym (drop_more table used d h)) ∙ take-append-drop used table in
       let long : 0 + length (take used table) ≡ used = omega (arith, length-take-le used table w.0) in
-      verdict table (Err (record { ground = LeftOver; case = record { row = 0; rule = 0; number = 0 }; entry = used }))
+      verdict table (Err (record { reason = LeftOver; case = record { row = 0; rule = 0; number = 0 }; entry = used }))
       (in_walk clear (rw (long, whole) at (fails_left_over 0 (get_or table used d) (drop (used + 1) table) w.1)))
 
   -- and where all is covered.

@@ -42,17 +42,17 @@ module _ {S : Type 0} (m : Meaning S) where
 
   -- The walk over these open cases fails first in this way; the first of these claims has the given number.
   pub data Fails : ℕ → List Case → List Claim → TableRefusal → Type 0 where
-    no_entry : {n : ℕ} {c : Case} {cs : List Case} → Fails n (c ∷ cs) [] (record { ground = NoEntry; case = c; entry = n })
-    no_such_row : {n : ℕ} {c : Case} {cs : List Case} {e : Claim} {es : List Claim} → m.rows ≤ e.row → Fails n (c ∷ cs) (e ∷ es) (record { ground = NoSuchRow; case = c; entry = n })
-    bad_matching : {n : ℕ} {c : Case} {cs : List Case} {e : Claim} {es : List Claim} → e.row < m.rows → m.covering c e.row e.matching ≡ Malformed → Fails n (c ∷ cs) (e ∷ es) (record { ground = BadMatching; case = c; entry = n })
-    not_covered : {n : ℕ} {c : Case} {cs : List Case} {e : Claim} {es : List Claim} → e.row < m.rows → m.covering c e.row e.matching ≡ DoesNotCover → Fails n (c ∷ cs) (e ∷ es) (record { ground = NotCovered; case = c; entry = n })
-    left_over : {n : ℕ} {e : Claim} {es : List Claim} → Fails n [] (e ∷ es) (record { ground = LeftOver; case = record { row = 0; rule = 0; number = 0 }; entry = n })
+    no_entry : {n : ℕ} {c : Case} {cs : List Case} → Fails n (c ∷ cs) [] (record { reason = NoEntry; case = c; entry = n })
+    no_such_row : {n : ℕ} {c : Case} {cs : List Case} {e : Claim} {es : List Claim} → m.rows ≤ e.row → Fails n (c ∷ cs) (e ∷ es) (record { reason = NoSuchRow; case = c; entry = n })
+    bad_matching : {n : ℕ} {c : Case} {cs : List Case} {e : Claim} {es : List Claim} → e.row < m.rows → m.covering c e.row e.matching ≡ Malformed → Fails n (c ∷ cs) (e ∷ es) (record { reason = BadMatching; case = c; entry = n })
+    not_covered : {n : ℕ} {c : Case} {cs : List Case} {e : Claim} {es : List Claim} → e.row < m.rows → m.covering c e.row e.matching ≡ DoesNotCover → Fails n (c ∷ cs) (e ∷ es) (record { reason = NotCovered; case = c; entry = n })
+    left_over : {n : ℕ} {e : Claim} {es : List Claim} → Fails n [] (e ∷ es) (record { reason = LeftOver; case = record { row = 0; rule = 0; number = 0 }; entry = n })
     later : {n : ℕ} {c : Case} {cs : List Case} {e : Claim} {es : List Claim} {f : TableRefusal} → Right c e → Fails (n + 1) cs es f → Fails n (c ∷ cs) (e ∷ es) f
 
   -- What a walk meets at an open case where the first n claims of the table are used up: a right claim, or its failure.
   abbrev pub Met : Case → List Claim → ℕ → Result (Unit {0}) TableGround → Type 0
   Met c table n (Ok _) = (n < length table) × Right c (slice_index_or table n (record { row = 0; matching = [] }))
-  Met c table n (Err g) = (cs : List Case) → Fails n (c ∷ cs) (drop n table) (record { ground = g; case = c; entry = n })
+  Met c table n (Err g) = (cs : List Case) → Fails n (c ∷ cs) (drop n table) (record { reason = g; case = c; entry = n })
 
   -- The first row that stands in the opening state, if any does.
   abbrev pub LowestStanding : Option ℕ → Type 0
@@ -66,7 +66,7 @@ module _ {S : Type 0} (m : Meaning S) where
 
   -- The first failure of a table: the lowest row that stands in the opening state, or else the first of the walk.
   pub data FirstFailure (table : List Claim) : TableRefusal → Type 0 where
-    row_stands : {row : ℕ} → row < m.rows → ((r : ℕ) → r < row → m.Stands r m.opening → ⊥) → m.Stands row m.opening → FirstFailure table (record { ground = RowStands; case = record { row = row; rule = 0; number = 0 }; entry = 0 })
+    row_stands : {row : ℕ} → row < m.rows → ((r : ℕ) → r < row → m.Stands r m.opening → ⊥) → m.Stands row m.opening → FirstFailure table (record { reason = RowStands; case = record { row = row; rule = 0; number = 0 }; entry = 0 })
     in_walk : {f : TableRefusal} → Clear m.opening → Fails 0 (open_cases m) table f → FirstFailure table f
 
   -- The judge's answer on a table: accepted, or its first failure.

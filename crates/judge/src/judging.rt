@@ -15,7 +15,7 @@ pub fn judge<K: PatternKind>(kind: &K, entries: &[Entry]) -> Result<(), TableRef
             number: 0,
         };
         return Err(TableRefusal {
-            ground: TableGround::RowStands,
+            reason: TableGround::RowStands,
             case,
             entry: 0,
         });
@@ -28,7 +28,7 @@ pub fn judge<K: PatternKind>(kind: &K, entries: &[Entry]) -> Result<(), TableRef
             number: 0,
         };
         return Err(TableRefusal {
-            ground: TableGround::LeftOver,
+            reason: TableGround::LeftOver,
             case,
             entry: used,
         });
@@ -64,7 +64,7 @@ fn walk<K: PatternKind>(kind: &K, entries: &[Entry]) -> Result<usize, TableRefus
                     if let Sort::Open = kind.sort(case) {
                         if let Err(ground) = check_entry(kind, case, entries, used) {
                             break 'walk Err(TableRefusal {
-                                ground,
+                                reason: ground,
                                 case,
                                 entry: used,
                             });

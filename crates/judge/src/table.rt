@@ -39,7 +39,7 @@ impl TableGround {
 /// The first failure of a table: its ground, the case and the number of the entry. What does not apply is 0.
 #[derive(Clone, Copy, PartialEq, Eq, Debug)]
 pub struct TableRefusal {
-    pub ground: TableGround,
+    pub reason: TableGround,
     pub case: Case,
     pub entry: usize,
 }

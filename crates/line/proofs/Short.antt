@@ -29,11 +29,11 @@ table_ground LeftOver = length-decimal-le 2 16 (omega arith) (omega arith) (omeg
 pub short : (v : Verdict) → Bounded v → length (line_of v) ≤ least_buffer
 short Accept h = omega arith
 short (Form f) h =
-    let ground = form_ground f.ground in
+    let ground = form_ground f.reason in
     let place : length (decimal f.place) ≤ 5 = length-decimal-le 5 f.place (omega arith) h (omega arith) in
     simp length-append (omega arith)
 short (Refuse f) h =
-    let ground = table_ground f.ground in
+    let ground = table_ground f.reason in
     let row : length (decimal f.case.row) ≤ 2 = length-decimal-le 2 f.case.row (omega arith) h.0 (omega arith) in
     let rule : length (decimal f.case.rule) ≤ 2 = length-decimal-le 2 f.case.rule (omega arith) h.1 (omega arith) in
     let case : length (decimal f.case.number) ≤ 8 = length-decimal-le 8 f.case.number (omega arith) h.2 (omega arith) in

@@ -16,8 +16,8 @@ line_refusal_number BufferTooShort = 27
 -- The verdict in words; numbers are decimal.
 abbrev pub text_of : Verdict → List ℕ
 text_of Accept = codes "ACCEPT"
-text_of (Form f) = codes "FORM " ++ (decimal (form_ground_number f.ground) ++ (codes " at " ++ decimal f.place))
-text_of (Refuse f) = codes "REFUSE " ++ (decimal (table_ground_number f.ground) ++ (codes " row " ++ (decimal f.case.row ++ (codes " rule " ++ (decimal f.case.rule ++ (codes " case " ++ (decimal f.case.number ++ (codes " entry " ++ decimal f.entry))))))))
+text_of (Form f) = codes "FORM " ++ (decimal (form_ground_number f.reason) ++ (codes " at " ++ decimal f.place))
+text_of (Refuse f) = codes "REFUSE " ++ (decimal (table_ground_number f.reason) ++ (codes " row " ++ (decimal f.case.row ++ (codes " rule " ++ (decimal f.case.rule ++ (codes " case " ++ (decimal f.case.number ++ (codes " entry " ++ decimal f.entry))))))))
 
 -- The line: the verdict and a line feed.
 abbrev pub line_of : Verdict → List ℕ

@@ -56,12 +56,12 @@ impl fmt::Display for Verdict {
         match self {
             Verdict::Accept => write!(f, "ACCEPT"),
             Verdict::Form(fault) => {
-                let ground = fault.ground.number();
+                let ground = fault.reason.number();
                 let place = fault.place;
                 write!(f, "FORM {ground} at {place}")
             }
             Verdict::Refuse(refusal) => {
-                let ground = refusal.ground.number();
+                let ground = refusal.reason.number();
                 let row = refusal.case.row;
                 let rule = refusal.case.rule;
                 let case = refusal.case.number;

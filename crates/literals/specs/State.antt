@@ -1,6 +1,6 @@
 -- States, what a literal says of one, and renaming.
 use Rattle.std.specs.Prelude.{◌≡◌, ℕ, max, Bool, true, false, List, map, slice_index}
-use Rattle.std.specs.List.{AllByRecursion as All}
+use Rattle.std.specs.List.{AllByRecursion}
 use Rattle.literals.specs.declared.literal.Fact.{Fact}
 use Rattle.literals.specs.declared.literal.Fact.TheVariants.{Unary, Binary, From, Into}
 use Rattle.literals.specs.declared.literal.Literal.{Literal}
@@ -27,7 +27,7 @@ Holds s l = Said l.affirmed (TrueIn s l.fact)
 
 -- Every literal of a list holds.
 abbrev pub AllHold : State → List Literal → Type 0
-AllHold s ls = All (Holds s) ls
+AllHold s ls = AllByRecursion (Holds s) ls
 
 -- A fact or literal under a renaming of its variables: by others, or by objects.
 abbrev pub fact_under : (ℕ → ℕ) → Fact → Fact

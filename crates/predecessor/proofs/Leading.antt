@@ -1,6 +1,6 @@
 -- Going on from an earlier state: where the effect settles every literal of the row, the rule leads into it.
 use Rattle.std.proofs.Common.{◌≡◌, ℕ, true, false, not, ◌||◌, List, [], map, sym, refl, ap, ◌∙◌, subst, inl, inr, arith}
-use Rattle.std.specs.List.{AllByRecursion as All}
+use Rattle.std.specs.List.{AllByRecursion}
 use Rattle.std.proofs.lemmas.Bool.{not-true, not_from_false, or_cases, or_parts, or_from, and_right, both_ways, cases_Bool}
 use Rattle.std.proofs.lemmas.List.{map-append, length-map}
 use Rattle.std.proofs.ByRecursion.{All-map, All-get_or}
@@ -33,7 +33,7 @@ module _ (rule : Transition) (row : Pattern) (n : ℕ) (rule_in : RuleIn rule) (
   fair : contradictory effect ≡ false
   fair = (or_parts (contradictory effect) _ named).0
 
-  none_false : All (λ l. made_false effect l ≡ false) row.literals
+  none_false : AllByRecursion (λ l. made_false effect l ≡ false) row.literals
   none_false = each_fails (made_false effect) row.literals (or_parts (contradictory effect) _ named).1
 
   module _ (s : State) (stands : StandsIn (earlier rule row n) s) where

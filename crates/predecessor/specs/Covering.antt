@@ -1,7 +1,7 @@
 -- Where literals cover a row, the row stands where they hold.
 use Rattle.std.specs.Prelude.{◌≡◌, ℕ, zero, suc, ◌<◌, ◌≤◌, true, false, not, ◌&&◌, ltb, List, [], ◌∷◌, map, length, ◌==◌, nat_eq, nat_lt, slice_index, refl}
 use Rattle.std.proofs.Common.{sym, ap, subst, arith}
-use Rattle.std.specs.List.{AllByRecursion as All}
+use Rattle.std.specs.List.{AllByRecursion}
 use Rattle.std.proofs.lemmas.Bool.{and_parts, or_parts, not-true, eqb-true, eqb-false, ltb-true}
 use Rattle.std.proofs.ByRecursion.{All-weaker, All-map, All-get_or}
 use Rattle.literals.specs.declared.Literal.{Literal}
@@ -31,7 +31,7 @@ module _ (ls : List Literal) (place : ℕ → ℕ) (s : State) (held : AllHold s
         let p = and_parts (length matching == row.variables) (all (λ x. ltb x n) matching && not (repeats matching)) w in
         let q = and_parts (all (λ x. ltb x n) matching) (not (repeats matching)) p.1 in
         let long : length matching ≡ row.variables = eqb-true (length matching) row.variables p.0 in
-        let within : All (λ x. x < n) matching = All-weaker (λ x. nat_lt x n ≡ true) (λ x. x < n) (λ x h. ltb-true x n h) matching (each_passes (λ x. ltb x n) matching q.0) in
+        let within : AllByRecursion (λ x. x < n) matching = All-weaker (λ x. nat_lt x n ≡ true) (λ x. x < n) (λ x h. ltb-true x n h) matching (each_passes (λ x. ltb x n) matching q.0) in
         record {
           place = λ x. place (slice_index matching x);
           different = λ i j h k same. apart matching (not-true (repeats matching) q.1) i j (omega arith) (omega arith) (different (slice_index matching i) (slice_index matching j) (All-get_or (λ x. x < n) matching i 0 (omega arith) within) (All-get_or (λ x. x < n) matching j 0 (omega arith) within) same);

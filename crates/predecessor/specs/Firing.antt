@@ -1,7 +1,7 @@
 -- What an effect of objects makes of literals: what held before, what holds after.
 use Rattle.std.specs.Prelude.{◌≡◌, ℕ, Bool, true, false, not, ◌&&◌, ◌||◌, ◌⊎◌, List, ◌==◌, ◌≢◌, refl}
 use Rattle.std.proofs.Common.{sym, inl, inr}
-use Rattle.std.specs.List.{AllByRecursion as All}
+use Rattle.std.specs.List.{AllByRecursion}
 use Rattle.std.proofs.lemmas.Bool.{and_parts, and_from, or_cases, or_left, or_right, not-true, not_from_false, both_ways, eqb-true, eq-eqb, false≢true}
 use Rattle.literals.specs.declared.Fact.{Fact}
 use Rattle.literals.specs.declared.Fact.TheVariants.{Unary, Binary, From, Into}
@@ -138,7 +138,7 @@ module _ (effect : List Literal) (s : State) where
   brought (From b x) false h c n = λ e. not_lost (s.binary b x e.0) _ _ e.1 (c (lit (Binary b x e.0) false) (and_from (b == b) (x == x) (same b) (same x)))
   brought (Into b x) false h c n = λ e. not_lost (s.binary b e.0 x) _ _ e.1 (c (lit (Binary b e.0 x) false) (and_from (b == b) (x == x) (same b) (same x)))
 
-  module _ (effective : All EffectIn effect) (fair : contradictory effect ≡ false) where
+  module _ (effective : AllByRecursion EffectIn effect) (fair : contradictory effect ≡ false) where
     -- What a fair effect says holds after it.
     pub effect_holds : AllHold (after effect s) effect
     effect_holds =

@@ -1,7 +1,7 @@
 -- What an injective renaming keeps in both directions, and renamings that agree.
 use Rattle.std.specs.Prelude.{◌≡◌, ℕ, ◌<◌, Bool, true, false, not, ◌&&◌, List, [], ◌∷◌, map, ◌==◌, refl}
 use Rattle.std.proofs.Common.{ap, ◌∙◌}
-use Rattle.std.specs.List.{AllByRecursion as All}
+use Rattle.std.specs.List.{AllByRecursion}
 use Rattle.std.proofs.ByRecursion.{All-weaker}
 use Rattle.std.proofs.lemmas.Bool.Decides.{same_from_decides, Decides-like, Decides-eqb}
 use Rattle.literals.specs.declared.Fact.{Fact}
@@ -22,7 +22,7 @@ module _ (n : ℕ) (p q : ℕ → ℕ) (agree : (x : ℕ) → x < n → p x ≡ 
   fact_agrees (Into b x) h = ap {B = Fact} (λ (y : ℕ). Into b y) (agree x h.1)
 
   -- Renamings that agree on the first n variables do the same to literals over them.
-  pub agreeing : (ls : List Literal) → All (LiteralIn n) ls → map (under p) ls ≡ map (under q) ls
+  pub agreeing : (ls : List Literal) → AllByRecursion (LiteralIn n) ls → map (under p) ls ≡ map (under q) ls
   agreeing [] h = refl
   agreeing (l ∷ ls) h =
       ap {B = List Literal} (λ (f : Fact). record { fact = f; affirmed = l.affirmed } ∷ map (under p) ls) (fact_agrees l.fact h.0)
@@ -62,13 +62,13 @@ module _ (n : ℕ) (p : ℕ → ℕ) (different : Different n p) where
   by_signs_under g f false false h k = implies_under f g k h
 
   -- A literal follows renamed just if it follows.
-  pub follows_under : (ls : List Literal) (l : Literal) → All (LiteralIn n) ls → LiteralIn n l → follows (map (under p) ls) (under p l) ≡ follows ls l
+  pub follows_under : (ls : List Literal) (l : Literal) → AllByRecursion (LiteralIn n) ls → LiteralIn n l → follows (map (under p) ls) (under p l) ≡ follows ls l
   follows_under ls l hs h =
       any_map (λ k. yields k l) (λ k. yields k (under p l)) (under p) ls
       (All-weaker (LiteralIn n) (λ k. yields (under p k) (under p l) ≡ yields k l) (λ k j. by_signs_under k.fact l.fact k.affirmed l.affirmed j h) ls hs)
 
   -- A set is contradictory renamed just if it is.
-  pub contradictory_under : (ls : List Literal) → All (LiteralIn n) ls → contradictory (map (under p) ls) ≡ contradictory ls
+  pub contradictory_under : (ls : List Literal) → AllByRecursion (LiteralIn n) ls → contradictory (map (under p) ls) ≡ contradictory ls
   contradictory_under ls hs =
       any_map (λ l. follows ls (denial l)) (λ l. follows (map (under p) ls) (denial l)) (under p) ls
       (All-weaker (LiteralIn n) (λ l. follows (map (under p) ls) (denial (under p l)) ≡ follows ls (denial l)) (λ l h. follows_under ls (denial l) hs h) ls hs)
@@ -89,10 +89,10 @@ module _ (n : ℕ) (p : ℕ → ℕ) (different : Different n p) where
   loosens_under (Into c y) (Into b x) g f = refl
 
   -- An effect thins a fact, or loosens a literal, renamed just if it does.
-  pub thins_under : (effect : List Literal) (f : Fact) → All (LiteralIn n) effect → FactIn n f → thins (map (under p) effect) (fact_under p f) ≡ thins effect f
+  pub thins_under : (effect : List Literal) (f : Fact) → AllByRecursion (LiteralIn n) effect → FactIn n f → thins (map (under p) effect) (fact_under p f) ≡ thins effect f
   thins_under effect f hs h =
       any_map (λ k. not k.affirmed && loosens k.fact f) (λ k. not k.affirmed && loosens k.fact (fact_under p f)) (under p) effect
       (All-weaker (LiteralIn n) (λ k. (not k.affirmed && loosens (fact_under p k.fact) (fact_under p f)) ≡ (not k.affirmed && loosens k.fact f)) (λ k j. ap (λ (u : Bool). not k.affirmed && u) (loosens_under k.fact f j h)) effect hs)
 
-  pub loosened_under : (effect : List Literal) (l : Literal) → All (LiteralIn n) effect → LiteralIn n l → loosened (map (under p) effect) (under p l) ≡ loosened effect l
+  pub loosened_under : (effect : List Literal) (l : Literal) → AllByRecursion (LiteralIn n) effect → LiteralIn n l → loosened (map (under p) effect) (under p l) ≡ loosened effect l
   loosened_under effect l hs h = ap (λ (u : Bool). not l.affirmed && u) (thins_under effect l.fact hs h)

@@ -1,7 +1,7 @@
 -- The model holds the opening state of a book whose atoms are in range.
 use Rattle.std.specs.Prelude.{◌≡◌, ℕ, ◌<◌, true, false, not, ◌&&◌, List, map, ◌==◌, refl}
 use Rattle.std.proofs.Common.{sym, ◌∙◌, arith}
-use Rattle.std.specs.List.{AllByRecursion as All}
+use Rattle.std.specs.List.{AllByRecursion}
 use Rattle.std.proofs.lemmas.Bool.{and_parts, eqb-true, false≢true}
 use Rattle.literals.specs.declared.Fact.{Fact}
 use Rattle.literals.specs.declared.Fact.TheVariants.{Unary, Binary}
@@ -14,7 +14,7 @@ use Rattle.atoms.specs.Book.{affirmed, just, Held, relation_count, object_count}
 use Rattle.atoms.specs.Range.{AtomIn}
 
 -- An atom of the opening is one of those that were given.
-given : (atoms : List Atom) (f : Fact) → All AtomIn atoms → (follows (map affirmed atoms) (record { fact = f; affirmed = true }) && not (follows (map affirmed atoms) (record { fact = f; affirmed = false }))) ≡ true
+given : (atoms : List Atom) (f : Fact) → AllByRecursion AtomIn atoms → (follows (map affirmed atoms) (record { fact = f; affirmed = true }) && not (follows (map affirmed atoms) (record { fact = f; affirmed = false }))) ≡ true
     → (x : Atom) × (yields (affirmed x) (record { fact = f; affirmed = true }) ≡ true) × AtomIn x
 given atoms f h e =
     let l : Literal = record { fact = f; affirmed = true } in
@@ -32,7 +32,7 @@ binary_in (atom.Binary c f g) b d e t h =
     let q = and_parts (f == d) (g == e) p.1 in
     (omega (arith, eqb-true c b p.0, h.0), omega (arith, eqb-true f d q.0, h.1), omega (arith, eqb-true g e q.1, h.2))
 
-pub just_held : (atoms : List Atom) → All AtomIn atoms → Held (just atoms)
+pub just_held : (atoms : List Atom) → AllByRecursion AtomIn atoms → Held (just atoms)
 just_held atoms h = record {
   unary_held = λ a d e. let w = given atoms (Unary a d) h e in unary_in w.0 a d w.1 w.2;
   binary_held = λ b d e t. let w = given atoms (Binary b d e) h t in binary_in w.0 b d e w.1 w.2;

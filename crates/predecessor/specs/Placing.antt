@@ -1,7 +1,7 @@
 -- A placement of a row's variables and a choice of objects: which variable each chosen object is, old or new.
 use Rattle.std.specs.Prelude.{◌≡◌, ℕ, zero, suc, ◌+◌, ◌<◌, ◌≤◌, true, cond, ◌⊎◌, List, [], ◌∷◌, map, length, ◌==◌, ◌≢◌, nat_le, nat_lt, refl}
 use Rattle.std.proofs.Common.{sym, ap, ◌∙◌, inl, inr, arith}
-use Rattle.std.specs.List.{AllByRecursion as All}
+use Rattle.std.specs.List.{AllByRecursion}
 use Rattle.std.proofs.lemmas.Bool.{and_from, cond-true, cond-false, eq-eqb, ne_eqb, le-leb, lt-ltb, le-ltb, cases_eq, cases_lt}
 use Rattle.atoms.specs.Pattern.{Different}
 use Rattle.predecessor.specs.Proper.{proper}
@@ -83,7 +83,7 @@ pub record Taken (n total : ℕ) (old : ℕ → ℕ) (choice : List ℕ) : Type 
   pub place : ℕ → ℕ
   pub as_many : length taken ≡ length choice
   pub in_order : proper n taken ≡ true
-  pub each_below : All (λ x. x < total) taken
+  pub each_below : AllByRecursion (λ x. x < total) taken
   pub different : Different total place
   pub stays : (i : ℕ) → i < n → place i ≡ old i
   pub given_back : map place taken ≡ choice

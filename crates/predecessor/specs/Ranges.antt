@@ -1,7 +1,7 @@
 -- What a renaming makes of the ranges of literals.
 use Rattle.std.specs.Prelude.{◌≡◌, ℕ, ◌<◌, ◌≤◌, List, map, length, slice_index}
 use Rattle.std.proofs.Common.{arith}
-use Rattle.std.specs.List.{AllByRecursion as All}
+use Rattle.std.specs.List.{AllByRecursion}
 use Rattle.std.proofs.ByRecursion.{All-weaker, All-map, All-get_or}
 use Rattle.literals.specs.declared.Fact.{Fact}
 use Rattle.literals.specs.declared.Fact.TheVariants.{Unary, Binary, From, Into}
@@ -16,7 +16,7 @@ more_variables n k h (From b x) p = (p.0, omega (arith, p.1))
 more_variables n k h (Into b x) p = (p.0, omega (arith, p.1))
 
 -- Literals over some variables are literals over more.
-pub in_more : (n k : ℕ) → n ≤ k → (ls : List Literal) → All (LiteralIn n) ls → All (LiteralIn k) ls
+pub in_more : (n k : ℕ) → n ≤ k → (ls : List Literal) → AllByRecursion (LiteralIn n) ls → AllByRecursion (LiteralIn k) ls
 in_more n k h ls = All-weaker (LiteralIn n) (LiteralIn k) (λ l. more_variables n k h l.fact) ls
 
 renamed_in : (n k : ℕ) (p : ℕ → ℕ) → ((x : ℕ) → x < n → p x < k) → (f : Fact) → FactIn n f → FactIn k (fact_under p f)
@@ -26,7 +26,7 @@ renamed_in n k p h (From b x) q = (q.0, h x q.1)
 renamed_in n k p h (Into b x) q = (q.0, h x q.1)
 
 -- Literals over n variables, each given one of k.
-pub chosen_in : (n k : ℕ) (xs : List ℕ) → length xs ≡ n → All (λ x. x < k) xs → (ls : List Literal) → All (LiteralIn n) ls → All (LiteralIn k) (chosen xs ls)
+pub chosen_in : (n k : ℕ) (xs : List ℕ) → length xs ≡ n → AllByRecursion (λ x. x < k) xs → (ls : List Literal) → AllByRecursion (LiteralIn n) ls → AllByRecursion (LiteralIn k) (chosen xs ls)
 chosen_in n k xs e h ls hs =
     All-map (LiteralIn k) (under (λ x. slice_index xs x)) ls
     (All-weaker (LiteralIn n) (λ l. LiteralIn k (under (λ x. slice_index xs x) l)) (λ l. renamed_in n k (λ x. slice_index xs x) (λ x l. All-get_or (λ y. y < k) xs x 0 (omega arith) h) l.fact) ls hs)
@@ -38,5 +38,5 @@ effective_under p (From b x) h = h
 effective_under p (Into b x) h = h
 
 -- An effect that affirms only atoms does so renamed.
-pub effect_in_under : (p : ℕ → ℕ) (ls : List Literal) → All EffectIn ls → All EffectIn (map (under p) ls)
+pub effect_in_under : (p : ℕ → ℕ) (ls : List Literal) → AllByRecursion EffectIn ls → AllByRecursion EffectIn (map (under p) ls)
 effect_in_under p ls h = All-map EffectIn (under p) ls (All-weaker EffectIn (λ l. EffectIn (under p l)) (λ l q e. effective_under p l.fact (q e)) ls h)

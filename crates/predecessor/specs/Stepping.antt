@@ -1,7 +1,7 @@
 -- Steps backwards: where a rule leads into a row, the earlier pattern of a case stands before.
 use Rattle.std.specs.Prelude.{◌≡◌, ℕ, ◌^◌, ◌<◌, Bool, true, false, not, ◌||◌, List, map, length, ◌≢◌, slice_index}
 use Rattle.std.proofs.Common.{sym, ap, subst, ◌∙◌, arith}
-use Rattle.std.specs.List.{AllByRecursion as All}
+use Rattle.std.specs.List.{AllByRecursion}
 use Rattle.std.proofs.lemmas.Bool.{not-true, not_from_true, or_parts, or_from}
 use Rattle.std.proofs.lemmas.List.{map-append, get_or-map}
 use Rattle.std.proofs.ByRecursion.{All-weaker, All-append, All-map, all_kept_by, kept_by_passes}
@@ -24,13 +24,13 @@ use Rattle.predecessor.specs.Numbering.{number_of, digits_of_number, number_belo
 use Rattle.predecessor.specs.Placing.{take}
 
 -- Literals with a choice for their variables, by way of the variables that the chosen objects are.
-pub by_way : (n : ℕ) (xs choice : List ℕ) (place : ℕ → ℕ) → length xs ≡ n → map place xs ≡ choice → (ls : List Literal) → All (LiteralIn n) ls → map (under place) (chosen xs ls) ≡ chosen choice ls
+pub by_way : (n : ℕ) (xs choice : List ℕ) (place : ℕ → ℕ) → length xs ≡ n → map place xs ≡ choice → (ls : List Literal) → AllByRecursion (LiteralIn n) ls → map (under place) (chosen xs ls) ≡ chosen choice ls
 by_way n xs choice place e is ls h =
     map_under_again place (λ x. slice_index xs x) ls
     ∙ agreeing n (λ x. place (slice_index xs x)) (λ x. slice_index choice x) (λ x l. sym (get_or-map place xs x 0 0 (omega arith)) ∙ ap (λ (ys : List ℕ). slice_index ys x) is) ls h
 
 -- Of the literals that hold after an effect, renamed, those that stay held before.
-module _ (n : ℕ) (place : ℕ → ℕ) (different : Different n place) (effect : List Literal) (effect_in : All (LiteralIn n) effect) (s : State) where
+module _ (n : ℕ) (place : ℕ → ℕ) (different : Different n place) (effect : List Literal) (effect_in : AllByRecursion (LiteralIn n) effect) (s : State) where
   abbrev ground : List Literal
   ground = map (under place) effect
 
@@ -39,7 +39,7 @@ module _ (n : ℕ) (place : ℕ → ℕ) (different : Different n place) (effect
       let w = or_parts (made_true effect l) (loosened effect l) (not-true (made_true effect l || loosened effect l) e) in
       held_before ground s (under place l) h.1 (follows_under n place different effect l effect_in h.0 ∙ w.0) (loosened_under n place different effect l effect_in h.0 ∙ w.1)
 
-  pub kept_held : (ls : List Literal) → All (LiteralIn n) ls → AllHold (after ground s) (map (under place) ls) → AllHold s (map (under place) (kept effect ls))
+  pub kept_held : (ls : List Literal) → AllByRecursion (LiteralIn n) ls → AllHold (after ground s) (map (under place) ls) → AllHold s (map (under place) (kept effect ls))
   kept_held ls hs held =
       let stays : Literal → Bool = λ l. not (made_true effect l || loosened effect l) in
       let both = all_from_both (LiteralIn n) (λ l. Holds (after ground s) (under place l)) (λ l. LiteralIn n l × Holds (after ground s) (under place l)) (λ l p q. (p, q)) ls hs (all_unmapped (Holds (after ground s)) (under place) ls held) in
@@ -50,13 +50,13 @@ module _ (n : ℕ) (place : ℕ → ℕ) (different : Different n place) (effect
 
 module _ (rule : Transition) (row : Pattern) (rule_in : RuleIn rule) (row_in : RowIn row) where
   -- the effect and the row's literals, over the variables of a case
-  pub effect_within : (n : ℕ) → All (LiteralIn (case_variables rule row)) (effect_in_case rule row n)
+  pub effect_within : (n : ℕ) → AllByRecursion (LiteralIn (case_variables rule row)) (effect_in_case rule row n)
   effect_within n = chosen_in rule.variables (case_variables rule row) (renaming rule row n) (length_digits (case_variables rule row) rule.variables n) (digits_below (case_variables rule row) rule.variables n (omega arith)) rule.effect rule_in.effect_in
 
-  pub row_within : All (LiteralIn (case_variables rule row)) row.literals
+  pub row_within : AllByRecursion (LiteralIn (case_variables rule row)) row.literals
   row_within = in_more row.variables (case_variables rule row) (omega arith) row.literals row_in.literals_in
 
-  pub affirms_atoms : (n : ℕ) (place : ℕ → ℕ) → All EffectIn (map (under place) (effect_in_case rule row n))
+  pub affirms_atoms : (n : ℕ) (place : ℕ → ℕ) → AllByRecursion EffectIn (map (under place) (effect_in_case rule row n))
   affirms_atoms n place = effect_in_under place (effect_in_case rule row n) (effect_in_under (λ x. slice_index (renaming rule row n) x) rule.effect rule_in.effective)
 
   module _ (n : ℕ) (place : ℕ → ℕ) (s : State) (different : Different (case_variables rule row) place) where

@@ -23,12 +23,12 @@ module _ (bytes rest : List ℕ) (p : ℕ) (g : Progress) (at : At bytes p g) (w
   length_here = ap length_at rest-is
 
   -- Bytes are left after the end.
-  pub left_after_end : g.section ≡ section.End → 0 < length rest → Faulty bytes (record { ground = ground.KindNotAllowed; place = p })
+  pub left_after_end : g.section ≡ section.End → 0 < length rest → Faulty bytes (record { reason = ground.KindNotAllowed; place = p })
   left_after_end e h = after_end short at e (omega (arith, rest_long))
 
   module _ (unended : g.section ≡ section.End → ⊥) where
     -- No whole record is left.
-    pub cut : length rest < 4 + length_at rest → Faulty bytes (record { ground = ground.CutShort; place = p })
+    pub cut : length rest < 4 + length_at rest → Faulty bytes (record { reason = ground.CutShort; place = p })
     cut h = cut_short short at unended (omega (arith, rest_long, length_here))
 
     module _ (whole : 4 + length_at rest ≤ length rest) where
@@ -39,7 +39,7 @@ module _ (bytes rest : List ℕ) (p : ℕ) (g : Progress) (at : At bytes p g) (w
       next_rest after e = e ∙ ap (λ (xs : List ℕ). drop (4 + length_at rest) xs) rest-is ∙ drop-drop (4 + length_at rest) p bytes
 
       -- The record is of no kind.
-      pub unknown : ((k : RecordKind) → record_number k ≡ kind_at rest → ⊥) → Faulty bytes (record { ground = ground.KindNotAllowed; place = p })
+      pub unknown : ((k : RecordKind) → record_number k ≡ kind_at rest → ⊥) → Faulty bytes (record { reason = ground.KindNotAllowed; place = p })
       unknown none = unknown_kind short at unended (omega (arith, next_within, length_here)) (λ k e. none k (e ∙ sym (ap kind_at rest-is)))
 
       module _ (k : RecordKind) (kind_is : kind_at rest ≡ record_number k) where

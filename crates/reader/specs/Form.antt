@@ -31,13 +31,13 @@ module _ (bytes : List ℕ) where
 
   -- The first record at fault, and why.
   pub data Faulty : FormFault → Type 0 where
-    too_long : most_bytes < length bytes → Faulty (record { ground = ground.TooLong; place = 0 })
-    cut_short : {p : ℕ} {g : Progress} → length bytes ≤ most_bytes → At p g → (g.section ≢ section.End) → length bytes < p + (4 + length_at (drop p bytes)) → Faulty (record { ground = ground.CutShort; place = p })
-    unknown_kind : {p : ℕ} {g : Progress} → length bytes ≤ most_bytes → At p g → (g.section ≢ section.End) → p + (4 + length_at (drop p bytes)) ≤ length bytes → ((k : RecordKind) → record_number k ≢ kind_at (drop p bytes)) → Faulty (record { ground = ground.KindNotAllowed; place = p })
-    misplaced : {p : ℕ} {g : Progress} {k : RecordKind} → length bytes ≤ most_bytes → At p g → StandsAt p g k → allowed g k ≡ false → Faulty (record { ground = ground.KindNotAllowed; place = p })
-    after_end : {p : ℕ} {g : Progress} → length bytes ≤ most_bytes → At p g → g.section ≡ section.End → p < length bytes → Faulty (record { ground = ground.KindNotAllowed; place = p })
-    wrong_length : {p : ℕ} {g : Progress} {k : RecordKind} → length bytes ≤ most_bytes → At p g → StandsAt p g k → allowed g k ≡ true → long g k (length_at (drop p bytes)) ≡ false → Faulty (record { ground = ground.WrongLength; place = p })
-    out_of_range : {p : ℕ} {g : Progress} {k : RecordKind} → length bytes ≤ most_bytes → At p g → StandsAt p g k → allowed g k ≡ true → long g k (length_at (drop p bytes)) ≡ true → ranged g k (body_at (drop p bytes)) ≡ false → Faulty (record { ground = ground.OutOfRange; place = p })
+    too_long : most_bytes < length bytes → Faulty (record { reason = ground.TooLong; place = 0 })
+    cut_short : {p : ℕ} {g : Progress} → length bytes ≤ most_bytes → At p g → (g.section ≢ section.End) → length bytes < p + (4 + length_at (drop p bytes)) → Faulty (record { reason = ground.CutShort; place = p })
+    unknown_kind : {p : ℕ} {g : Progress} → length bytes ≤ most_bytes → At p g → (g.section ≢ section.End) → p + (4 + length_at (drop p bytes)) ≤ length bytes → ((k : RecordKind) → record_number k ≢ kind_at (drop p bytes)) → Faulty (record { reason = ground.KindNotAllowed; place = p })
+    misplaced : {p : ℕ} {g : Progress} {k : RecordKind} → length bytes ≤ most_bytes → At p g → StandsAt p g k → allowed g k ≡ false → Faulty (record { reason = ground.KindNotAllowed; place = p })
+    after_end : {p : ℕ} {g : Progress} → length bytes ≤ most_bytes → At p g → g.section ≡ section.End → p < length bytes → Faulty (record { reason = ground.KindNotAllowed; place = p })
+    wrong_length : {p : ℕ} {g : Progress} {k : RecordKind} → length bytes ≤ most_bytes → At p g → StandsAt p g k → allowed g k ≡ true → long g k (length_at (drop p bytes)) ≡ false → Faulty (record { reason = ground.WrongLength; place = p })
+    out_of_range : {p : ℕ} {g : Progress} {k : RecordKind} → length bytes ≤ most_bytes → At p g → StandsAt p g k → allowed g k ≡ true → long g k (length_at (drop p bytes)) ≡ true → ranged g k (body_at (drop p bytes)) ≡ false → Faulty (record { reason = ground.OutOfRange; place = p })
 
   -- What reading the file comes to: it is in form and holds this, or it has this fault.
   abbrev pub Verdict : Result Progress FormFault → Type 0

@@ -17,11 +17,11 @@ literal_place (Second place) = place
 
 -- Its ground and place; want of memory says nothing of the file.
 abbrev pub form_of : DossierFault → Option FormFault
-form_of TooLong = Some (record { ground = ground.TooLong; place = 0 })
-form_of (CutShort place) = Some (record { ground = ground.CutShort; place = place })
-form_of (AfterEnd place) = Some (record { ground = ground.KindNotAllowed; place = place })
-form_of (Record (inner.KindNotAllowed place)) = Some (record { ground = ground.KindNotAllowed; place = place })
-form_of (Record (inner.WrongLength place)) = Some (record { ground = ground.WrongLength; place = place })
-form_of (Record (inner.Field f)) = Some (record { ground = ground.OutOfRange; place = f.place })
-form_of (Record (inner.Literal f)) = Some (record { ground = ground.OutOfRange; place = literal_place f })
+form_of TooLong = Some (record { reason = ground.TooLong; place = 0 })
+form_of (CutShort place) = Some (record { reason = ground.CutShort; place = place })
+form_of (AfterEnd place) = Some (record { reason = ground.KindNotAllowed; place = place })
+form_of (Record (inner.KindNotAllowed place)) = Some (record { reason = ground.KindNotAllowed; place = place })
+form_of (Record (inner.WrongLength place)) = Some (record { reason = ground.WrongLength; place = place })
+form_of (Record (inner.Field f)) = Some (record { reason = ground.OutOfRange; place = f.place })
+form_of (Record (inner.Literal f)) = Some (record { reason = ground.OutOfRange; place = literal_place f })
 form_of (Record inner.OutOfMemory) = None

@@ -33,7 +33,7 @@ impl FormGround {
 /// Why a file is not in form, and the first byte of the record at fault.
 #[derive(Clone, Copy, PartialEq, Eq, Debug)]
 pub struct FormFault {
-    pub ground: FormGround,
+    pub reason: FormGround,
     pub place: usize,
 }
 
@@ -112,7 +112,10 @@ impl DossierFault {
             ),
             DossierFault::Record(RecordFault::OutOfMemory) => return None,
         };
-        Some(FormFault { ground, place })
+        Some(FormFault {
+            reason: ground,
+            place,
+        })
     }
 }
 

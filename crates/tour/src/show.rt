@@ -3,7 +3,7 @@ use judge::{Call, TableRefusal};
 use pattern::Answer;
 
 pub fn show_refusal(rt: &HostRuntime, refusal: &TableRefusal) -> anyhow::Result<()> {
-    let number = refusal.ground.number();
+    let number = refusal.reason.number();
     let entry = refusal.entry;
     let row = refusal.case.row;
     let rule = refusal.case.rule;

@@ -1,5 +1,5 @@
 use Rattle.std.proofs.Common.{List, sym, ap, ◌∙◌, subst}
-use Rattle.std.specs.List.{AllByRecursion as All}
+use Rattle.std.specs.List.{AllByRecursion}
 use Rattle.std.proofs.lemmas.Result.{err_from_is_err_and}
 use Rattle.literals.specs.declared.Literal.{Literal}
 use Rattle.literals.specs.State.{chosen}
@@ -17,7 +17,7 @@ returns-in_err-check c =
 
 pub change-requires : goal.change-requires
 change-requires c =
-    subst (λ (ls : List Literal). All GainIn (chosen c.args.choice.now ls)) (sym c.deref.ensures.value)
+    subst (λ (ls : List Literal). AllByRecursion GainIn (chosen c.args.choice.now ls)) (sym c.deref.ensures.value)
     (effect_gains (transition_of c.args.self.now) c.args.choice.now c.requires c.in_ok-check.ensures.0)
 
 pub returns : goal.returns
