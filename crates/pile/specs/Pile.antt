@@ -8,7 +8,7 @@ use Rattle.either_kind.specs.Kind.{either_of, either_valid}
 use Rattle.observer.specs.declared.Mode.{Mode}
 use Rattle.observer.specs.declared.Observer.{Observer}
 use Rattle.observer.specs.declared.ObserverRefusal.{ObserverRefusal}
-use Rattle.observer.specs.Observed.{ObservedBook, observed, InRange}
+use Rattle.observer.specs.Observed.{ObservedBook, observed, InRange, RefusedBy}
 use Rattle.observer.specs.Kind.{book_of, state_of, meaning_of, valid_of}
 use Rattle.drafting.specs.Progress.{Layer}
 
@@ -39,6 +39,11 @@ abbrev pub PileIn : {B S : Type 0} → Meaning S → B → List Layer → Type 0
 PileIn m b [] = Unit {0}
 PileIn m b (l ∷ ls) = InRange m (over b l) × PileIn (observed m (over b l)) (over b l) ls
 
+-- The first of the observers that is none of what is below it is refused on this ground.
+abbrev pub PileRefusedBy : {B S : Type 0} → Meaning S → B → List Layer → ObserverRefusal → Type 0
+PileRefusedBy m b [] e = ⊥
+PileRefusedBy m b (l ∷ ls) e = RefusedBy m (over b l) e ⊎ (InRange m (over b l) × PileRefusedBy (observed m (over b l)) (over b l) ls e)
+
 -- The members of a kind under observers.
 abbrev pub Piled : Type 0 → Type 0
 Piled K = Either K (Either (Observer K) (Observer (Observer K)))
@@ -52,12 +57,12 @@ piled_state state = either_of state (either_of (state_of state) (state_of (state
 abbrev pub piled_valid : {K B S : Type 0} → (K → Type 0) → (B → Meaning S) → (K → B) → Piled K → Type 0
 piled_valid valid meaning book = either_valid valid (either_valid (valid_of valid meaning book) (valid_of (valid_of valid meaning book) (meaning_of meaning) (book_of book)))
 
--- Putting an observer over a kind gives a kind with that book; it is refused only where it is no observer of the kind.
+-- Putting an observer over a kind gives a kind with that book; it is refused on the first ground on which it is no observer of the kind.
 abbrev pub ObservedBy : {K B S : Type 0} → (K → Type 0) → (B → Meaning S) → (K → B) → K → Layer → Result (Observer K) ObserverRefusal → Type 0
 ObservedBy valid meaning book k l (Ok o) = valid_of valid meaning book o × (book_of book o ≡ over (book k) l)
-ObservedBy valid meaning book k l (Err e) = InRange (meaning (book k)) (over (book k) l) → ⊥
+ObservedBy valid meaning book k l (Err e) = RefusedBy (meaning (book k)) (over (book k) l) e
 
 -- The same of all observers of a dossier.
 abbrev pub PiledBy : {K B S : Type 0} → (K → Type 0) → (B → Meaning S) → (K → B) → K → List Layer → Result (Piled K) ObserverRefusal → Type 0
 PiledBy valid meaning book k ls (Ok p) = piled_valid valid meaning book p × (piled_book book p ≡ pile_book (book k) ls)
-PiledBy valid meaning book k ls (Err e) = PileIn (meaning (book k)) (book k) ls → ⊥
+PiledBy valid meaning book k ls (Err e) = PileRefusedBy (meaning (book k)) (book k) ls e
