@@ -1,4 +1,5 @@
 pub mod Side
 pub mod Kind
+-- Not to be believed but proved: the lemmas by which the impl of `PatternKind` shows its duties, which can cite no file of proofs/.
 pub mod Lifting
 pub mod Sides

@@ -4,6 +4,7 @@ pub mod Kind
 pub mod Exact
 pub mod Made
 pub mod System
+-- Not to be believed but proved: the lemmas by which the impl of `PatternKind` shows its duties, which can cite no file of proofs/.
 pub mod Duty
 pub mod Limits
 pub mod Stepping
