@@ -4,7 +4,7 @@ use Rattle.std.proofs.lemmas.List.{take_more, take_all, length-take-le}
 use Rattle.pattern.specs.declared.Answer.{Answer}
 use Rattle.pattern.specs.Meaning.{Meaning}
 use Rattle.pattern.specs.Call.{Called, Exchange, Calls, none, more}
-use Rattle.judge.specs.declared.model.Call.{Call}
+use Rattle.judge.specs.declared.calls.Call.{Call}
 use Rattle.judge.specs.Play.{call_of, log_of}
 
 calls_push : {S : Type 0} (m : Meaning S) {s t u : S} {log : List Exchange} (x : Exchange) → Calls m s log t → Called m t x.call x.answer u → Calls m s (log ++ x ∷ []) u

@@ -5,7 +5,6 @@ use pattern::{Case, Covering, PatternKind, Sort};
 
 /// Judges a table of entries over a pattern kind: accepted, or its first failure.
 pub fn judge<K: PatternKind>(kind: &K, entries: &[Entry]) -> Result<(), TableRefusal>
-    requires { K.valid kind.now }
     ensures { Verdict (K.meaning (K.book kind.now)) (claims entries.now) result }
 {
     if let Some(row) = lowest_standing(kind) {
@@ -38,7 +37,6 @@ pub fn judge<K: PatternKind>(kind: &K, entries: &[Entry]) -> Result<(), TableRef
 
 /// The lowest row that stands in the opening state.
 fn lowest_standing<K: PatternKind>(kind: &K) -> Option<usize>
-    requires { K.valid kind.now }
     ensures { LowestStanding (K.meaning (K.book kind.now)) result }
 {
     for row in 0..kind.rows() {
@@ -52,7 +50,6 @@ fn lowest_standing<K: PatternKind>(kind: &K) -> Option<usize>
 /// Walks rows, in each its rules, in each its cases. Every open case uses the next entry, and the
 /// first that fails ends the walk. Otherwise: how many entries were used.
 fn walk<K: PatternKind>(kind: &K, entries: &[Entry]) -> Result<usize, TableRefusal>
-    requires { K.valid kind.now }
     ensures { Walked (K.meaning (K.book kind.now)) (claims entries.now) result }
 {
     let mut used = 0;
@@ -85,7 +82,6 @@ fn check_entry<K: PatternKind>(
     entries: &[Entry],
     number: usize,
 ) -> Result<(), TableGround>
-    requires { K.valid kind.now }
     ensures { Met (K.meaning (K.book kind.now)) case (claims entries.now) number result }
 {
     let Some(entry) = entries.get(number) else {

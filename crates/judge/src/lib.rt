@@ -3,8 +3,10 @@
 
 mod judging;
 pub mod model;
+pub mod calls;
 pub mod table;
 
 pub use judging::judge;
-pub use model::{Call, Model, Rejected};
+pub use model::Model;
+pub use calls::{Call, Rejected};
 pub use table::{Entry, TableGround, TableRefusal};

@@ -27,12 +27,12 @@ pub enum TableGround {
     LeftOver = 16,
 }
 
-impl TableGround {
+impl From<TableGround> for u8 {
+    ghost from_gives = { λ reason number. number ≡ table_ground_number reason };
+
     /// The number by which the ground is reported.
-    pub fn number(self) -> u8
-        ensures { result ≡ table_ground_number self }
-    {
-        self as u8
+    fn from(reason: TableGround) -> u8 {
+        reason as u8
     }
 }
 

@@ -41,12 +41,12 @@ pub enum FireRefusal {
     BeyondModel = 25,
 }
 
-impl FireRefusal {
+impl From<FireRefusal> for u8 {
+    ghost from_gives = { λ refusal number. number ≡ fire_refusal_number refusal };
+
     /// The number by which the refusal is reported.
-    pub fn number(self) -> u8
-        ensures { result ≡ fire_refusal_number self }
-    {
-        self as u8
+    fn from(refusal: FireRefusal) -> u8 {
+        refusal as u8
     }
 }
 
@@ -56,12 +56,12 @@ pub enum LookRefusal {
     NoSuchRow = 26,
 }
 
-impl LookRefusal {
+impl From<LookRefusal> for u8 {
+    ghost from_gives = { λ refusal number. number ≡ look_refusal_number refusal };
+
     /// The number by which the refusal is reported.
-    pub fn number(self) -> u8
-        ensures { result ≡ look_refusal_number self }
-    {
-        self as u8
+    fn from(refusal: LookRefusal) -> u8 {
+        refusal as u8
     }
 }
 

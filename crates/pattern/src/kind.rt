@@ -22,62 +22,48 @@ pub trait PatternKind {
     // the state that a value is in
     ghost state: { Self → State };
 
-    // the value is a pattern kind: its numbers are in range and within the limits
-    ghost valid: { Self → Type 0 };
-
     /// How many rules there are.
     fn rules(&self) -> usize
-        requires { valid self.now }
         ensures { result ≡ (meaning (book self.now)).rules };
 
     /// How many rows there are.
     fn rows(&self) -> usize
-        requires { valid self.now }
         ensures { result ≡ (meaning (book self.now)).rows };
 
     /// How many cases a row and a rule have.
     fn cases(&self, row: usize, rule: usize) -> usize
-        requires { valid self.now }
         ensures { result ≡ (meaning (book self.now)).cases row rule };
 
     /// What a case asks of a dossier.
     fn sort(&self, case: Case) -> Sort
-        requires { valid self.now }
         ensures { result ≡ (meaning (book self.now)).sort case };
 
     /// How long a matching of a row is.
     fn matching_length(&self, row: usize) -> usize
-        requires { valid self.now }
         ensures { result ≡ (meaning (book self.now)).matching_length row };
 
     /// What a matching of a named row says of a case.
     fn covering(&self, case: Case, named: usize, matching: &[u8]) -> Covering
-        requires { valid self.now }
         ensures { result ≡ (meaning (book self.now)).covering case named matching.now };
 
     /// Whether a row stands in the opening state.
     fn stands_in_opening(&self, row: usize) -> bool
-        requires { valid self.now }
         ensures { Decides result ((meaning (book self.now)).Stands row (meaning (book self.now)).opening) };
 
     /// Fires a rule under a choice; a refusal leaves the state.
     fn fire(&mut self, rule: usize, choice: &[u8]) -> Result<(), FireRefusal>
-        requires { valid self.old }
         ensures same { book self.new ≡ book self.old }
-        ensures good { valid self.new }
         ensures fired { Fired (meaning (book self.old)) (state self.old) rule choice.now result (state self.new) };
 
     /// Whether a row stands in the state.
     fn look(&self, row: usize) -> Result<bool, LookRefusal>
-        requires { valid self.now }
         ensures { Looked (meaning (book self.now)) (state self.now) row result };
 
     /// Goes back to the opening state.
     fn restart(&mut self)
-        requires { valid self.old }
         ensures same { book self.new ≡ book self.old }
-        ensures good { valid self.new }
         ensures back { state self.new ≡ (meaning (book self.old)).opening };
 
-    ghost duties: { (k : Self) → valid k → Duties (meaning (book k)) };
+    // what every value owes, so that no more is asked of one than its type
+    ghost duties: { (k : Self) → Duties (meaning (book k)) };
 }
