@@ -13,10 +13,6 @@ counts_book c = book_of c.net
 abbrev pub counts_state : Counts → Marking
 counts_state c = tally (vec_items c.marking)
 
--- Nothing more is asked of a `Counts`: its invariant says it all.
-abbrev pub counts_valid : Counts → Type 0
-counts_valid c = Unit {0}
-
 -- Making one of this data gives a kind with this book in its opening state, or the first ground against it.
 abbrev pub Made : CountedBook → Result Counts NetRefusal → Type 0
 Made b (Ok c) = InRange b × (counts_book c ≡ b) × (counts_state c ≡ tally b.opening)

@@ -2,7 +2,7 @@ ghost use Rattle.std.specs.Prelude.{◌≡◌, ◌<◌, length, IfOk, if◌then�
 ghost use Rattle.counts.specs.Net.{Marking, tally, Held};
 ghost use Rattle.counts.specs.Counted.{CountedBook, exists, earlier_of, counted_meaning, Exact};
 ghost use Rattle.counts.specs.Data.{book_of};
-ghost use Rattle.counts.specs.Kind.{counts_book, counts_state, counts_valid, Made};
+ghost use Rattle.counts.specs.Kind.{counts_book, counts_state, Made};
 ghost use Rattle.counts.specs.Duty.{counted_duties};
 
 use crate::counted::Counts;
@@ -58,9 +58,7 @@ impl PatternKind for Counts {
 
     ghost state = { counts_state };
 
-    ghost valid = { counts_valid };
-
-    ghost duties = { λ k v. counted_duties (book_of k.net) k.rules_in k.rows_in k.opens };
+    ghost duties = { λ k. counted_duties (book_of k.net) k.rules_in k.rows_in k.opens };
 
     fn rules(&self) -> usize {
         self.net.rule_count()

@@ -39,12 +39,7 @@ pub fn judge<K: PatternKind>(kind: &K, entries: &[Entry]) -> Result<(), TableRef
 fn lowest_standing<K: PatternKind>(kind: &K) -> Option<usize>
     ensures { LowestStanding (K.meaning (K.book kind.now)) result }
 {
-    for row in 0..kind.rows() {
-        if kind.stands_in_opening(row) {
-            return Some(row);
-        }
-    }
-    None
+    (0..kind.rows()).find(|row| kind.stands_in_opening(*row))
 }
 
 /// Walks rows, in each its rules, in each its cases. Every open case uses the next entry, and the

@@ -1,7 +1,7 @@
 ghost use Rattle.std.specs.Prelude.{◌≡◌, ◌+◌, ◌*◌, ◌<◌, ◌≤◌, length, MatchOption, slice_index_or};
 ghost use Rattle.observer.specs.Mode.{mode_number, mode_count};
 ghost use Rattle.observer.specs.Observed.{ObservedBook, row_at, mode_before, case_below, Exists};
-ghost use Rattle.observer.specs.Kind.{book_of, state_of, meaning_of, valid_of};
+ghost use Rattle.observer.specs.Kind.{book_of, state_of, meaning_of};
 ghost use Rattle.observer.specs.declared.mode.Mode.{Mode as ObserverMode};
 ghost use Rattle.observer.specs.declared.mode.Mode.TheVariants.{Zero as ModeZero};
 ghost use Rattle.observer.specs.Duty.{observed_duties};
@@ -28,17 +28,15 @@ impl<K: PatternKind> Observer<K> {
 
     /// The mode to which a rule moves from a mode.
     fn next_mode(&self, rule: usize, mode: Mode) -> Mode
-        requires good { valid_of K.valid K.meaning K.book self.now }
-        requires rule_in { rule < (K.meaning (K.book self.now.below)).rules }
+        requires { rule < (K.meaning (K.book self.now.below)).rules }
         ensures { result ≡ slice_index_or self.now.moves.items (rule * mode_count + mode_number mode) ModeZero }
     {
-        self.moves[rule * Mode::COUNT + usize::from(mode.number())]
+        self.moves[rule * Mode::COUNT + usize::from(u8::from(mode))]
     }
 
     /// The parts of a case, where there is such a case.
     fn parts(&self, case: Case) -> Option<Parts>
-        requires { valid_of K.valid K.meaning K.book self.now }
-        ensures { MatchOption result (Exists (K.meaning (K.book self.now.below)) (book_of K.book self.now) case → ⊥) (λ p. Exists (K.meaning (K.book self.now.below)) (book_of K.book self.now) case × (p.row ≡ row_at (K.meaning (K.book self.now.below)) (book_of K.book self.now) case.row) × (mode_number p.before ≡ mode_before (K.meaning (K.book self.now.below)) (book_of K.book self.now) case) × (p.below ≡ case_below (K.meaning (K.book self.now.below)) (book_of K.book self.now) case)) }
+        ensures { MatchOption result (Exists (K.meaning (K.book self.now.below)) (book_of self.now) case → ⊥) (λ p. Exists (K.meaning (K.book self.now.below)) (book_of self.now) case × (p.row ≡ row_at (K.meaning (K.book self.now.below)) (book_of self.now) case.row) × (mode_number p.before ≡ mode_before (K.meaning (K.book self.now.below)) (book_of self.now) case) × (p.below ≡ case_below (K.meaning (K.book self.now.below)) (book_of self.now) case)) }
     {
         let row = self.row(case.row)?;
         if case.rule >= self.below.rules() {
@@ -48,7 +46,9 @@ impl<K: PatternKind> Observer<K> {
         if case.number >= Mode::COUNT * count {
             return None;
         }
-        let before = Mode::new((case.number / count) as u8)?;
+        let Ok(before) = Mode::try_from((case.number / count) as u8) else {
+            return None;
+        };
         let below = Case {
             row: row.below,
             rule: case.rule,
@@ -65,15 +65,13 @@ impl<K: PatternKind> PatternKind for Observer<K> {
 
     ghost meaning = { meaning_of K.PatternKind.meaning };
 
-    ghost book = { book_of K.PatternKind.book };
+    ghost book = { book_of };
 
-    ghost state = { state_of K.PatternKind.state };
+    ghost state = { state_of };
 
-    ghost valid = { valid_of K.PatternKind.valid K.PatternKind.meaning K.PatternKind.book };
-
-    ghost duties = { λ k v.
+    ghost duties = { λ k.
         let below = K.PatternKind in
-        observed_duties (below.meaning (below.book k.below)) (book_of below.book k) (K.PatternKind.duties k.below v.0) v.1 };
+        observed_duties (below.meaning (below.book k.below)) (book_of k) (K.PatternKind.duties k.below) (k.moves_fit, k.rows_in, k.rows_below, k.cases_fit) };
 
     fn rules(&self) -> usize {
         self.below.rules()

@@ -6,5 +6,5 @@ pub mod mode;
 pub mod observed;
 mod over;
 
-pub use mode::{Mode, ObserverRow};
+pub use mode::{Mode, NoSuchMode, ObserverRow};
 pub use observed::{NotObserved, Observer, ObserverRefusal};

@@ -1,5 +1,5 @@
-ghost use Rattle.std.specs.Prelude.{◌≡◌, ◌≤◌, MatchOption};
-ghost use Rattle.observer.specs.Mode.{mode_number, mode_count};
+ghost use Rattle.std.specs.Prelude.{◌≡◌};
+ghost use Rattle.observer.specs.Mode.{mode_number, Numbered};
 
 /// A mode of an observer.
 #[derive(Clone, Copy, PartialEq, Eq, Debug)]
@@ -13,25 +13,35 @@ pub enum Mode {
 impl Mode {
     /// How many modes there are.
     pub const COUNT: usize = 4;
+}
+
+/// A number that no mode has.
+#[derive(Clone, Copy, PartialEq, Eq, Debug)]
+pub struct NoSuchMode(pub u8);
+
+impl TryFrom<u8> for Mode {
+    type Error = NoSuchMode;
+
+    ghost try_from_gives = { Numbered };
 
     /// The mode with this number.
-    pub fn new(number: u8) -> Option<Mode>
-        ensures { MatchOption result (mode_count ≤ number) (λ m. mode_number m ≡ number) }
-    {
+    fn try_from(number: u8) -> Result<Mode, NoSuchMode> {
         match number {
-            0 => Some(Mode::Zero),
-            1 => Some(Mode::One),
-            2 => Some(Mode::Two),
-            3 => Some(Mode::Three),
-            _ => None,
+            0 => Ok(Mode::Zero),
+            1 => Ok(Mode::One),
+            2 => Ok(Mode::Two),
+            3 => Ok(Mode::Three),
+            _ => Err(NoSuchMode(number)),
         }
     }
+}
+
+impl From<Mode> for u8 {
+    ghost from_gives = { λ mode number. number ≡ mode_number mode };
 
     /// The number of the mode.
-    pub fn number(self) -> u8
-        ensures { result ≡ mode_number self }
-    {
-        self as u8
+    fn from(mode: Mode) -> u8 {
+        mode as u8
     }
 }
 

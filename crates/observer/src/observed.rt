@@ -1,12 +1,19 @@
+ghost use Rattle.observer.specs.Observed.{MovesFit, RowsIn, RowsBelow, CasesFit};
+
 use crate::mode::{Mode, ObserverRow};
+use pattern::PatternKind;
 
 /// A pattern kind with an observer: a mode that moves at each firing, by the rule and the mode.
 #[derive(Drop)]
-pub struct Observer<K> {
+pub struct Observer<K: PatternKind> {
     pub(super) below: K,
     pub(super) mode: Mode,
     pub(super) moves: Vec<Mode>,
     pub(super) rows: Vec<ObserverRow>,
+    ghost moves_fit: { MovesFit (K.meaning (K.book below)) (record { below = K.book below; moves = moves.items; rows = rows.items }) },
+    ghost rows_in: { RowsIn (K.meaning (K.book below)) (record { below = K.book below; moves = moves.items; rows = rows.items }) },
+    ghost rows_below: { RowsBelow (K.meaning (K.book below)) (record { below = K.book below; moves = moves.items; rows = rows.items }) },
+    ghost cases_fit: { CasesFit (K.meaning (K.book below)) (record { below = K.book below; moves = moves.items; rows = rows.items }) },
 }
 
 /// Why a table of moves and rows is no observer of a kind. Of several grounds the first listed counts.

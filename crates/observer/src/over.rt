@@ -17,8 +17,7 @@ impl<K: PatternKind> Observer<K> {
         moves: Vec<Mode>,
         rows: Vec<ObserverRow>,
     ) -> Result<Observer<K>, NotObserved<K>>
-        requires { K.valid below }
-        ensures { Made K.valid K.meaning K.book below moves rows result }
+        ensures { Made below moves rows result }
     {
         match check(&below, &moves, &rows) {
             Ok(()) => Ok(Observer {
@@ -43,7 +42,6 @@ fn check<K: PatternKind>(
     moves: &[Mode],
     rows: &[ObserverRow],
 ) -> Result<(), ObserverRefusal>
-    requires { K.valid below.now }
     ensures { MatchResult result (λ _. InRange (K.meaning (K.book below.entry.now)) (record { below = K.book below.entry.now; moves = moves.now; rows = rows.now })) (λ e. RefusedBy (K.meaning (K.book below.entry.now)) (record { below = K.book below.entry.now; moves = moves.now; rows = rows.now }) e) }
 {
     if moves.len() != below.rules() * Mode::COUNT {
@@ -63,39 +61,21 @@ fn check<K: PatternKind>(
 
 /// Whether each row names a row below.
 fn rows_below<K: PatternKind>(below: &K, rows: &[ObserverRow]) -> bool
-    requires { K.valid below.now }
     ensures { Decides result ((row : ℕ) → row < length rows.now → (slice_index_or rows.now row (record { below = 0; mode = ModeZero })).below < (K.meaning (K.book below.entry.now)).rows) }
 {
-    for row in rows {
-        if row.below >= below.rows() {
-            return false;
-        }
-    }
-    true
+    rows.iter().all(|row| row.below < below.rows())
 }
 
 /// Whether four times the cases of each row below stay within the limit.
 fn cases_fit<K: PatternKind>(below: &K, rows: &[ObserverRow]) -> bool
-    requires { K.valid below.now }
     ensures { Decides result ((row : ℕ) → row < length rows.now → (rule : ℕ) → rule < (K.meaning (K.book below.entry.now)).rules → CasesAllowed (mode_count * (K.meaning (K.book below.entry.now)).cases (slice_index_or rows.now row (record { below = 0; mode = ModeZero })).below rule)) }
 {
-    for row in rows {
-        if !row_fits(below, row.below) {
-            return false;
-        }
-    }
-    true
+    rows.iter().all(|row| row_fits(below, row.below))
 }
 
 /// Whether four times the cases of a row and each rule below stay within the limit.
 fn row_fits<K: PatternKind>(below: &K, row: usize) -> bool
-    requires { K.valid below.now }
     ensures { Decides result ((rule : ℕ) → rule < (K.meaning (K.book below.now)).rules → CasesAllowed (mode_count * (K.meaning (K.book below.now)).cases row rule)) }
 {
-    for rule in 0..below.rules() {
-        if !cases_allowed(below.cases(row, rule) * Mode::COUNT) {
-            return false;
-        }
-    }
-    true
+    (0..below.rules()).all(|rule| cases_allowed(Mode::COUNT * below.cases(row, rule)))
 }

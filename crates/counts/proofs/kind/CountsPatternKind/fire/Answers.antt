@@ -13,7 +13,6 @@ returns c =
     let long : length left ≡ vec_len marking = omega arith in
     record {
       same = refl;
-      good = tt;
       fired = rw (with_items_is marking left long)
           (marking_fired (book_of c.args.self.now.net) c.args.rule c.args.choice.now (transition_of c.in-Some.rule.now) found.0 (eqb-true _ 0 (sym c.is_empty.ensures ∙ c.if-not-is_empty.false)) found.1
           (vec_items marking) c.deref_mut.result.now left c.fire.result c.deref_mut.ensures.value c.fire.ensures.checked c.fire.ensures.moved c.fire.ensures.stays);

@@ -1,6 +1,5 @@
-use Rattle.std.proofs.Common.{vec_items, sym, ap, subst}
+use Rattle.std.proofs.Common.{vec_items, ap}
 use Rattle.std.proofs.lemmas.Result.{err_from_is_err_and}
-use Rattle.observer.specs.Observed.{InRange}
 use Rattle.observer.specs.Kind.{book_of}
 use Rattle.observer.proofs.Refusing.{refused_above}
 use Rattle.observer.proofs.kind.ObserverPatternKind.fire.Goals as goal
@@ -12,6 +11,5 @@ returns-in_err-fire g c =
     let p = err_from_is_err_and c.from_residual.result c.from_residual.ensures.1 in
     record {
       same = ap (λ (x : k.Book). record { below = x; moves = vec_items self.moves; rows = vec_items self.rows }) c.fire.ensures.same;
-      good = (c.fire.ensures.good, subst (λ (x : k.Book). InRange (k.meaning x) (record { below = x; moves = vec_items self.moves; rows = vec_items self.rows })) (sym c.fire.ensures.same) c.requires.1);
-      fired = rw (p.1, p.2) (refused_above (k.meaning (k.book self.below)) (book_of k.book self) (k.state self.below) (k.state c.fire.new.self) self.mode c.args.rule c.args.choice.now c.in_err-fire.field-0.0 c.in_err-fire.ensures.fired);
+      fired = rw (p.1, p.2) (refused_above (k.meaning (k.book self.below)) (book_of self) (k.state self.below) (k.state c.fire.new.self) self.mode c.args.rule c.args.choice.now c.in_err-fire.field-0.0 c.in_err-fire.ensures.fired);
     }

@@ -8,8 +8,3 @@ overflow_cast-case g c =
     let few : c.args.case.number / c.cases-count.result < mode_count = div_below c.args.case.number c.cases-count.result mode_count (omega arith) (omega arith) in
     let h : c.args.case.number / c.cases-count.result < 2 ^ 8 = omega arith in
     omega arith
-
-pub returns-in_err-before : goal.returns-in_err-before
-returns-in_err-before g c =
-    let few : c.args.case.number / c.cases-count.result < mode_count = div_below c.args.case.number c.cases-count.result mode_count (omega arith) (omega arith) in
-    absurd (omega (arith, c.in_err-before.ensures))
