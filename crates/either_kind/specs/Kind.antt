@@ -8,7 +8,3 @@ use Rattle.either_kind.specs.declared.sum.Either.TheVariants.{Left, Right}
 abbrev pub either_of : {X Y A B : Type 0} → (X → A) → (Y → B) → Either X Y → A ⊎ B
 either_of f g (Left x) = inl (f x)
 either_of f g (Right y) = inr (g y)
-
-abbrev pub either_valid : {X Y : Type 0} → (X → Type 0) → (Y → Type 0) → Either X Y → Type 0
-either_valid P Q (Left x) = P x
-either_valid P Q (Right y) = Q y

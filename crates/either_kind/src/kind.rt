@@ -1,7 +1,7 @@
 ghost use Rattle.std.specs.Prelude.{◌⊎◌};
 ghost use Rattle.std.proofs.Common.{inl, inr};
 ghost use Rattle.either_kind.specs.Side.{either_meaning, left_part, right_part};
-ghost use Rattle.either_kind.specs.Kind.{either_of, either_valid};
+ghost use Rattle.either_kind.specs.Kind.{either_of};
 ghost use Rattle.either_kind.specs.declared.sum.Either.TheVariants.{Left, Right};
 ghost use Rattle.either_kind.specs.Lifting.{lifted_duties};
 ghost use Rattle.either_kind.specs.Sides.{left_back, left_forth, right_back, right_forth};
@@ -20,19 +20,15 @@ impl<A: PatternKind, B: PatternKind> PatternKind for Either<A, B> {
 
     ghost state = { either_of A.PatternKind.state B.PatternKind.state };
 
-    ghost valid = { either_valid A.PatternKind.valid B.PatternKind.valid };
-
     ghost duties = { elim [
       | Left a ↦
-          λ v.
           let k = A.PatternKind in
           let other = B.PatternKind in
-          lifted_duties inl left_part (left_back k.State other.State) (left_forth k.State other.State) (k.meaning (k.book a)) (A.PatternKind.duties a v)
+          lifted_duties inl left_part (left_back k.State other.State) (left_forth k.State other.State) (k.meaning (k.book a)) (A.PatternKind.duties a)
       | Right b ↦
-          λ v.
           let k = B.PatternKind in
           let other = A.PatternKind in
-          lifted_duties inr right_part (right_back other.State k.State) (right_forth other.State k.State) (k.meaning (k.book b)) (B.PatternKind.duties b v)
+          lifted_duties inr right_part (right_back other.State k.State) (right_forth other.State k.State) (k.meaning (k.book b)) (B.PatternKind.duties b)
     ] };
 
     fn rules(&self) -> usize {

@@ -9,7 +9,6 @@ returns-in-Left g c =
     let b = g.B.PatternKind in
     record {
       same = ap inl c.fire.ensures.same ∙ sym (ap (either_of a.book b.book) c.in-Left.is);
-      good = c.fire.ensures.good;
       fired = left_fired a.meaning b.meaning a.book b.book a.state b.state c.args.self.now c.args.rule c.args.choice.now c.fire.result c.in-Left.a (a.state c.fire.new.self) c.in-Left.is c.fire.ensures.fired;
     }
 
@@ -19,6 +18,5 @@ returns-in-Right g c =
     let b = g.B.PatternKind in
     record {
       same = ap inr c.fire-in-Right.ensures.same ∙ sym (ap (either_of a.book b.book) c.in-Right.is);
-      good = c.fire-in-Right.ensures.good;
       fired = right_fired a.meaning b.meaning a.book b.book a.state b.state c.args.self.now c.args.rule c.args.choice.now c.fire-in-Right.result c.in-Right.b (b.state c.fire-in-Right.new.self) c.in-Right.is c.fire-in-Right.ensures.fired;
     }
