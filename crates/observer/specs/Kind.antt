@@ -19,6 +19,16 @@ state_of {K} {kind} o = (kind.state o.below, o.mode)
 abbrev pub meaning_of : {B S : Type 0} → (B → Meaning S) → ObservedBook B → Meaning (S × Mode)
 meaning_of meaning b = observed (meaning b.below) b
 
+-- The members of an observer, from those of the kind below.
+abbrev pub observing : {K : Type 0} (kind : Ghosts K) → Ghosts (Observer K kind)
+observing kind = record {
+  State = kind.State × Mode;
+  Book = ObservedBook kind.Book;
+  meaning = meaning_of kind.meaning;
+  book = book_of;
+  state = state_of;
+}
+
 -- Putting these moves and rows over a kind gives an observer of it in mode 0, or everything back with the first ground against it.
 abbrev pub Made : {K : Type 0} {kind : Ghosts K} → K → Vec Mode Global → Vec ObserverRow Global → Result (Observer K kind) (NotObserved K) → Type 0
 Made {K} {kind} below moves rows (Ok o) = InRange (kind.meaning (kind.book o.below)) (book_of o) × (o.below ≡ below) × (o.mode ≡ Zero) × (o.moves ≡ moves) × (o.rows ≡ rows)

@@ -1,15 +1,16 @@
 -- A kind under some observers, one over the other: its book, what it means, and when there is one.
 use Rattle.std.specs.Prelude.{◌≡◌, ◌⊎◌, List, [], ◌∷◌, Ok, Err, Result}
 use Rattle.std.proofs.Common.{inl, inr}
+use Rattle.pattern.specs.declared.PatternKind.{Ghosts}
 use Rattle.pattern.specs.Meaning.{Meaning}
 use Rattle.either_kind.specs.declared.Either.{Either}
 use Rattle.either_kind.specs.Side.{either_meaning}
-use Rattle.either_kind.specs.Kind.{either_of, either_valid}
+use Rattle.either_kind.specs.Kind.{either_of}
 use Rattle.observer.specs.declared.Mode.{Mode}
 use Rattle.observer.specs.declared.Observer.{Observer}
 use Rattle.observer.specs.declared.ObserverRefusal.{ObserverRefusal}
 use Rattle.observer.specs.Observed.{ObservedBook, observed, InRange, RefusedBy}
-use Rattle.observer.specs.Kind.{book_of, state_of, meaning_of, valid_of}
+use Rattle.observer.specs.Kind.{book_of, state_of, meaning_of, observing}
 use Rattle.drafting.specs.Progress.{Layer}
 
 -- A book with no observer, with one, or with two.
@@ -45,24 +46,21 @@ PileRefusedBy m b [] e = ⊥
 PileRefusedBy m b (l ∷ ls) e = RefusedBy m (over b l) e ⊎ (InRange m (over b l) × PileRefusedBy (observed m (over b l)) (over b l) ls e)
 
 -- The members of a kind under observers.
-abbrev pub Piled : Type 0 → Type 0
-Piled K = Either K (Either (Observer K) (Observer (Observer K)))
+abbrev pub Piled : {K : Type 0} → Ghosts K → Type 0
+Piled {K} kind = Either K (Either (Observer K kind) (Observer (Observer K kind) (observing kind)))
 
-abbrev pub piled_book : {K B : Type 0} → (K → B) → Piled K → PiledBook B
-piled_book book = either_of book (either_of (book_of book) (book_of (book_of book)))
+abbrev pub piled_book : {K : Type 0} {kind : Ghosts K} → Piled kind → PiledBook kind.Book
+piled_book {K} {kind} = either_of kind.book (either_of book_of book_of)
 
-abbrev pub piled_state : {K S : Type 0} → (K → S) → Piled K → PiledState S
-piled_state state = either_of state (either_of (state_of state) (state_of (state_of state)))
-
-abbrev pub piled_valid : {K B S : Type 0} → (K → Type 0) → (B → Meaning S) → (K → B) → Piled K → Type 0
-piled_valid valid meaning book = either_valid valid (either_valid (valid_of valid meaning book) (valid_of (valid_of valid meaning book) (meaning_of meaning) (book_of book)))
+abbrev pub piled_state : {K : Type 0} {kind : Ghosts K} → Piled kind → PiledState kind.State
+piled_state {K} {kind} = either_of kind.state (either_of state_of state_of)
 
 -- Putting an observer over a kind gives a kind with that book; it is refused on the first ground on which it is no observer of the kind.
-abbrev pub ObservedBy : {K B S : Type 0} → (K → Type 0) → (B → Meaning S) → (K → B) → K → Layer → Result (Observer K) ObserverRefusal → Type 0
-ObservedBy valid meaning book k l (Ok o) = valid_of valid meaning book o × (book_of book o ≡ over (book k) l)
-ObservedBy valid meaning book k l (Err e) = RefusedBy (meaning (book k)) (over (book k) l) e
+abbrev pub ObservedBy : {K : Type 0} {kind : Ghosts K} → K → Layer → Result (Observer K kind) ObserverRefusal → Type 0
+ObservedBy {K} {kind} k l (Ok o) = book_of o ≡ over (kind.book k) l
+ObservedBy {K} {kind} k l (Err e) = RefusedBy (kind.meaning (kind.book k)) (over (kind.book k) l) e
 
 -- The same of all observers of a dossier.
-abbrev pub PiledBy : {K B S : Type 0} → (K → Type 0) → (B → Meaning S) → (K → B) → K → List Layer → Result (Piled K) ObserverRefusal → Type 0
-PiledBy valid meaning book k ls (Ok p) = piled_valid valid meaning book p × (piled_book book p ≡ pile_book (book k) ls)
-PiledBy valid meaning book k ls (Err e) = PileRefusedBy (meaning (book k)) (book k) ls e
+abbrev pub PiledBy : {K : Type 0} {kind : Ghosts K} → K → List Layer → Result (Piled kind) ObserverRefusal → Type 0
+PiledBy {K} {kind} k ls (Ok p) = piled_book p ≡ pile_book (kind.book k) ls
+PiledBy {K} {kind} k ls (Err e) = PileRefusedBy (kind.meaning (kind.book k)) (kind.book k) ls e

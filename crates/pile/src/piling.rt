@@ -11,8 +11,7 @@ pub type Piled<K> = Either<K, Either<Observer<K>, Observer<Observer<K>>>>;
 
 /// Puts the observers of a dossier over a kind, the lowest first.
 pub fn pile<K: PatternKind + Drop>(kind: K, layers: Layers) -> Result<Piled<K>, ObserverRefusal>
-    requires { K.valid kind }
-    ensures { PiledBy K.valid K.meaning K.book kind (layers_of layers) result }
+    ensures { PiledBy kind (layers_of layers) result }
 {
     match layers {
         Layers::None => Ok(Either::Left(kind)),
@@ -26,8 +25,7 @@ pub fn pile<K: PatternKind + Drop>(kind: K, layers: Layers) -> Result<Piled<K>, 
 
 /// Puts one observer over a kind.
 fn observe<K: PatternKind + Drop>(kind: K, layer: Layer) -> Result<Observer<K>, ObserverRefusal>
-    requires { K.valid kind }
-    ensures { ObservedBy K.valid K.meaning K.book kind (layer_of layer) result }
+    ensures { ObservedBy kind (layer_of layer) result }
 {
     let Layer { moves, rows } = layer;
     match Observer::over(kind, moves, rows) {
