@@ -17,10 +17,6 @@ system_book s = atoms_book s.atoms
 abbrev pub system_state : AtomSystem → State
 system_state s = atoms_state s.atoms
 
--- Nothing more is asked of an `AtomSystem`: its invariant says it all.
-abbrev pub system_valid : AtomSystem → Type 0
-system_valid s = Unit {0}
-
 -- Making one of this data gives a system with this book in its opening state, or the first ground against it.
 abbrev pub MadeSystem : AtomsBook → Result AtomSystem BookRefusal → Type 0
 MadeSystem b (Ok s) = InRange b × (system_book s ≡ b) × (system_state s ≡ just b.opening)

@@ -5,7 +5,7 @@ ghost use Rattle.atoms.specs.Data.{transition_of, pattern_of, book_of};
 ghost use Rattle.predecessor.specs.Kind.{Exists, earlier_of, atoms_meaning};
 ghost use Rattle.predecessor.specs.Exact.{ExactOf};
 ghost use Rattle.predecessor.specs.Made.{literals_of};
-ghost use Rattle.predecessor.specs.System.{Found, system_book, system_state, system_valid, MadeSystem};
+ghost use Rattle.predecessor.specs.System.{Found, system_book, system_state, MadeSystem};
 ghost use Rattle.atoms.proofs.Ranged.{in_range};
 ghost use Rattle.predecessor.specs.Duty.{atoms_duties};
 
@@ -59,9 +59,7 @@ impl PatternKind for AtomSystem {
 
     ghost state = { system_state };
 
-    ghost valid = { system_valid };
-
-    ghost duties = { λ k v. atoms_duties (system_book k) (in_range (system_book k) k.atoms.in_range) };
+    ghost duties = { λ k. atoms_duties (system_book k) (in_range (system_book k) k.atoms.in_range) };
 
     fn rules(&self) -> usize {
         self.atoms.rules()
