@@ -3,26 +3,21 @@ use Rattle.std.proofs.Common.{◌≡◌, ℕ, List, IfSome, Some, None, Ok, Err,
 use Rattle.pattern.specs.Run.{Firing, Leads}
 use Rattle.pattern.specs.Call.{Exchange, Calls}
 use Rattle.judge.specs.declared.TableRefusal.{TableRefusal}
-use Rattle.judge.specs.declared.Model.{Model}
 use Rattle.judge.specs.Acceptance.{Claim, Accepted, FirstFailure, Within}
-use Rattle.judge.specs.Safety.{SafeAfter, Guarded}
+use Rattle.judge.specs.Safety.{SafeAfter}
 use Rattle.judge.specs.Law.{Law}
 use Rattle.records.specs.declared.FormFault.{FormFault}
 use Rattle.drafting.specs.Progress.{Progress}
 use Rattle.file_reader.specs.Dossier.{Dossier, dossier_of}
 use Rattle.file_reader.specs.Form.{InForm, Faulty, Reached, OneVerdict}
 use Rattle.line.specs.declared.Verdict.TheVariants.{Accept, Form, Refuse}
-use Rattle.dossier.specs.Meaning.{FileBook, FileKind, FileState, file_book, book_meaning, file_meaning, model_book, model_state, ModelGuarded}
+use Rattle.dossier.specs.Meaning.{FileBook, FileState, file_book, book_meaning, file_meaning}
 use Rattle.dossier.specs.Law.{HoldsDossier, FileLaw}
 use Rattle.dossier.specs.Opened.{verdict_of, of_form}
 
 -- The judge's law over the kind that was made is the law over the file's dossier.
 pub law_of : (d : Dossier) (b : FileBook) (table : List Claim) (answer : Result (Unit {0}) TableRefusal) → b ≡ file_book d → table ≡ d.entries → Law (book_meaning b) table answer → Law (file_meaning d) d.entries answer
 law_of d b table answer e f law = subst (λ (x : FileBook). Law (book_meaning x) d.entries answer) e (subst (λ (x : List Claim). Law (book_meaning b) x answer) f law)
-
--- A state that is guarded by a book is guarded by the same book.
-pub guarded_by : (m : Model FileKind) (b : FileBook) → model_book m ≡ b → Guarded (book_meaning b) (model_state m) → ModelGuarded m
-guarded_by m b e guarded = subst (λ (x : FileBook). Guarded (book_meaning x) (model_state m)) (sym e) guarded
 
 apart : {X : Type 0} → ◌≡◌ {A = ℕ} 0 1 → X
 apart z = absurd (omega arith)

@@ -5,10 +5,9 @@ use Rattle.line.specs.declared.Verdict.{Verdict}
 use Rattle.line.specs.declared.Verdict.TheVariants.{Accept, Form, Refuse}
 use Rattle.records.specs.declared.FormFault.{FormFault}
 use Rattle.file_reader.specs.Dossier.{Dossier}
-use Rattle.dossier.specs.declared.model.FileModel.{FileModel}
 use Rattle.dossier.specs.declared.opening.NoModel.{NoModel}
 use Rattle.dossier.specs.declared.opening.NoModel.TheVariants.{NotInForm, TableRefused, OutOfMemory}
-use Rattle.dossier.specs.Meaning.{file_book, file_meaning, model_book, model_state}
+use Rattle.dossier.specs.Meaning.{file_book, file_meaning, FileModel, model_book, model_state}
 use Rattle.dossier.specs.Law.{HoldsDossier}
 
 -- The verdict that the answer stands for; want of memory says nothing of the file.
@@ -33,4 +32,4 @@ of_form (Some f) = NotInForm f
 
 -- The model is one of the file's book, in its opening state.
 abbrev pub Opens : List ℕ → FileModel → Type 0
-Opens bytes m = (d : Dossier) × HoldsDossier bytes d × (model_book m.model ≡ file_book d) × (model_state m.model ≡ (file_meaning d).opening)
+Opens bytes m = (d : Dossier) × HoldsDossier bytes d × (model_book m ≡ file_book d) × (model_state m ≡ (file_meaning d).opening)

@@ -1,16 +1,14 @@
 ghost use Rattle.std.specs.Prelude.{◌≡◌, IfOk};
 ghost use Rattle.counts.specs.Counted.{counted_meaning};
 ghost use Rattle.counts.specs.Data as counted;
-ghost use Rattle.counts.specs.Kind.{counts_book, counts_valid};
 ghost use Rattle.counts.specs.Range as counts-range;
 ghost use Rattle.atoms.specs.Data as atomic;
 ghost use Rattle.atoms.specs.Range as atoms-range;
 ghost use Rattle.predecessor.specs.Kind.{atoms_meaning};
-ghost use Rattle.predecessor.specs.System.{system_book, system_valid};
 ghost use Rattle.drafting.specs.Drafted.{draft_book_of, layers_of};
 ghost use Rattle.file_reader.specs.Dossier.{BookIn};
-ghost use Rattle.pile.specs.Pile.{PileIn, pile_book, piled_book, piled_valid};
-ghost use Rattle.dossier.specs.Meaning.{observed_book, kind_book, kind_valid};
+ghost use Rattle.pile.specs.Pile.{PileIn, pile_book, piled_book};
+ghost use Rattle.dossier.specs.Meaning.{observed_book, kind_book};
 ghost use Rattle.dossier.specs.Building.{ObserversIn};
 
 use crate::kind::FileKind;
@@ -26,7 +24,7 @@ use std::alloc::{AllocError, Global};
 pub(crate) fn build(heap: Global, book: DraftBook, layers: Layers) -> Result<FileKind, AllocError>
     requires in_range { BookIn (draft_book_of book) }
     requires observers { ObserversIn (draft_book_of book) (layers_of layers) }
-    ensures { IfOk result (λ k. kind_valid k × (kind_book k ≡ observed_book (draft_book_of book) (layers_of layers))) }
+    ensures { IfOk result (λ k. kind_book k ≡ observed_book (draft_book_of book) (layers_of layers)) }
 {
     match book {
         DraftBook::Atoms(book) => Ok(Either::Left(build_atoms(book, layers))),
@@ -38,7 +36,7 @@ pub(crate) fn build(heap: Global, book: DraftBook, layers: Layers) -> Result<Fil
 fn build_counts(heap: Global, net: Net, layers: Layers) -> Result<Piled<Counts>, AllocError>
     requires book { counts-range.InRange (counted.book_of net) }
     requires observers { PileIn (counted_meaning (counted.book_of net)) (counted.book_of net) (layers_of layers) }
-    ensures { IfOk result (λ k. piled_valid counts_valid counted_meaning counts_book k × (piled_book counts_book k ≡ pile_book (counted.book_of net) (layers_of layers))) }
+    ensures { IfOk result (λ k. piled_book k ≡ pile_book (counted.book_of net) (layers_of layers)) }
 {
     let counts = match Counts::new(heap, net) {
         Ok(counts) => counts,
@@ -55,7 +53,7 @@ fn build_counts(heap: Global, net: Net, layers: Layers) -> Result<Piled<Counts>,
 fn build_atoms(book: Book, layers: Layers) -> Piled<AtomSystem>
     requires book { atoms-range.InRange (atomic.book_of book) }
     requires observers { PileIn (atoms_meaning (atomic.book_of book)) (atomic.book_of book) (layers_of layers) }
-    ensures { piled_valid system_valid atoms_meaning system_book result × (piled_book system_book result ≡ pile_book (atomic.book_of book) (layers_of layers)) }
+    ensures { piled_book result ≡ pile_book (atomic.book_of book) (layers_of layers) }
 {
     let system = match AtomSystem::new(book) {
         Ok(system) => system,

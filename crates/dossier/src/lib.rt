@@ -3,12 +3,9 @@
 
 mod building;
 pub mod kind;
-pub mod model;
 mod opening;
-mod playing;
 mod reporting;
 
-pub use kind::FileKind;
-pub use model::FileModel;
+pub use kind::{FileKind, FileModel};
 pub use opening::{NoModel, open};
 pub use reporting::{MIN_BUFFER, judge_file, report};

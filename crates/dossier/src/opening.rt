@@ -5,7 +5,7 @@ ghost use Rattle.dossier.specs.Opened.{verdict_without, verdict_of, Given, Opens
 ghost use Rattle.dossier.specs.declared.opening.NoModel.TheVariants.{OutOfMemory as MemoryVariant};
 
 use crate::building::build;
-use crate::model::FileModel;
+use crate::kind::FileModel;
 use drafting::Draft;
 use file_reader::read;
 use judge::{Model, TableRefusal};
@@ -71,8 +71,5 @@ pub fn open(heap: Global, bytes: &[u8]) -> Result<FileModel, NoModel>
         entries,
     } = read(heap, bytes)?;
     let kind = build(heap, book, layers)?;
-    match Model::new(kind, &entries) {
-        Ok(model) => Ok(FileModel { model }),
-        Err(rejected) => Err(NoModel::TableRefused(rejected.refusal)),
-    }
+    Model::new(kind, &entries).map_err(|rejected| NoModel::TableRefused(rejected.refusal))
 }

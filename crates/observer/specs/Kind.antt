@@ -20,8 +20,8 @@ abbrev pub meaning_of : {B S : Type 0} → (B → Meaning S) → ObservedBook B 
 meaning_of meaning b = observed (meaning b.below) b
 
 -- The members of an observer, from those of the kind below.
-abbrev pub observing : {K : Type 0} (kind : Ghosts K) → Ghosts (Observer K kind)
-observing kind = record {
+abbrev pub observed_kind : {K : Type 0} (kind : Ghosts K) → Ghosts (Observer K kind)
+observed_kind kind = record {
   State = kind.State × Mode;
   Book = ObservedBook kind.Book;
   meaning = meaning_of kind.meaning;

@@ -5,12 +5,12 @@ use Rattle.pattern.specs.declared.PatternKind.{Ghosts}
 use Rattle.pattern.specs.Meaning.{Meaning}
 use Rattle.either_kind.specs.declared.Either.{Either}
 use Rattle.either_kind.specs.Side.{either_meaning}
-use Rattle.either_kind.specs.Kind.{either_of}
+use Rattle.either_kind.specs.Kind.{either_of, either_kind}
 use Rattle.observer.specs.declared.Mode.{Mode}
 use Rattle.observer.specs.declared.Observer.{Observer}
 use Rattle.observer.specs.declared.ObserverRefusal.{ObserverRefusal}
 use Rattle.observer.specs.Observed.{ObservedBook, observed, InRange, RefusedBy}
-use Rattle.observer.specs.Kind.{book_of, state_of, meaning_of, observing}
+use Rattle.observer.specs.Kind.{book_of, state_of, meaning_of, observed_kind}
 use Rattle.drafting.specs.Progress.{Layer}
 
 -- A book with no observer, with one, or with two.
@@ -47,7 +47,10 @@ PileRefusedBy m b (l ∷ ls) e = RefusedBy m (over b l) e ⊎ (InRange m (over b
 
 -- The members of a kind under observers.
 abbrev pub Piled : {K : Type 0} → Ghosts K → Type 0
-Piled {K} kind = Either K (Either (Observer K kind) (Observer (Observer K kind) (observing kind)))
+Piled {K} kind = Either K (Either (Observer K kind) (Observer (Observer K kind) (observed_kind kind)))
+
+abbrev pub piled_kind : {K : Type 0} (kind : Ghosts K) → Ghosts (Piled kind)
+piled_kind kind = either_kind kind (either_kind (observed_kind kind) (observed_kind (observed_kind kind)))
 
 abbrev pub piled_book : {K : Type 0} {kind : Ghosts K} → Piled kind → PiledBook kind.Book
 piled_book {K} {kind} = either_of kind.book (either_of book_of book_of)
