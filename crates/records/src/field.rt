@@ -35,8 +35,5 @@ pub fn read_modes(heap: Global, body: Body<'_>) -> Result<Vec<Mode>, RecordFault
 pub fn read_mode(number: u8, place: usize) -> Result<Mode, FieldFault>
     ensures { ModeRead number place result }
 {
-    match Mode::new(number) {
-        Some(mode) => Ok(mode),
-        None => Err(FieldFault { place }),
-    }
+    Mode::new(number).ok_or(FieldFault { place })
 }
