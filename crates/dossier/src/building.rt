@@ -8,7 +8,7 @@ ghost use Rattle.atoms.specs.Range as atoms-range;
 ghost use Rattle.predecessor.specs.Kind.{atoms_meaning};
 ghost use Rattle.predecessor.specs.System.{system_book, system_valid};
 ghost use Rattle.drafting.specs.Drafted.{draft_book_of, layers_of};
-ghost use Rattle.file_reader.specs.Dossier.{BookIn};
+ghost use Rattle.reader.specs.Dossier.{BookIn};
 ghost use Rattle.pile.specs.Pile.{PileIn, pile_book, piled_book, piled_valid};
 ghost use Rattle.dossier.specs.Meaning.{observed_book, kind_book, kind_valid};
 ghost use Rattle.dossier.specs.Building.{ObserversIn};

@@ -3,7 +3,7 @@ use Rattle.std.proofs.lemmas.Result.{err_from_is_err_and}
 use Rattle.judge.specs.Acceptance.{claims}
 use Rattle.records.specs.Fault.{form_of}
 use Rattle.drafting.specs.Drafted.{draft_book_of, layers_of, progress_of}
-use Rattle.file_reader.specs.Dossier.{dossier_of}
+use Rattle.reader.specs.Dossier.{dossier_of}
 use Rattle.dossier.specs.Meaning.{FileBook, book_meaning, kind_book}
 use Rattle.dossier.proofs.Piling.{observers_in}
 use Rattle.dossier.proofs.Lawful.{law_of, guarded_by, fault_law, accepted_law, refused_law}
