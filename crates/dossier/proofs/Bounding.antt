@@ -2,10 +2,11 @@
 use Rattle.std.proofs.Common.{ℕ, ◌^◌, ◌<◌, ◌≤◌, List, length, IfSome, IfOk, Some, None, Ok, Err, Option, Result, refl, ap, arith}
 use Rattle.std.proofs.lemmas.Bool.{false≢true}
 use Rattle.std.specs.declared.alloc.AllocError.{AllocError}
+use Rattle.records.specs.declared.Books.TheVariants.{Any}
 use Rattle.records.specs.declared.FormFault.{FormFault}
-use Rattle.file_reader.specs.Dossier.{Dossier}
-use Rattle.file_reader.specs.Form.{most_bytes, Faulty, too_long, cut_short, unknown_kind, misplaced, after_end, wrong_length, out_of_range}
-use Rattle.file_reader.proofs.Well.{few_entries, place_within}
+use Rattle.reader.specs.Dossier.{Dossier}
+use Rattle.reader.specs.Form.{most_bytes, Faulty, too_long, cut_short, unknown_kind, misplaced, after_end, wrong_length, out_of_range}
+use Rattle.reader.proofs.Well.{few_entries, place_within}
 use Rattle.line.specs.declared.Verdict.{Verdict}
 use Rattle.line.specs.declared.Verdict.TheVariants.{Accept, Form, Refuse}
 use Rattle.line.specs.declared.NoLine.{NoLine}
@@ -19,7 +20,7 @@ use Rattle.dossier.specs.Reported.{Reported}
 
 module _ (bytes : List ℕ) where
   -- The place of a fault is in the file, or at its end.
-  place_in : {f : FormFault} → Faulty bytes f → f.place ≤ most_bytes
+  place_in : {f : FormFault} → Faulty Any bytes f → f.place ≤ most_bytes
   place_in (too_long _) = omega arith
   place_in (cut_short s at _ _) = omega (arith, s, place_within bytes at)
   place_in (unknown_kind s at _ _ _) = omega (arith, s, place_within bytes at)

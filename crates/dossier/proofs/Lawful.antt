@@ -6,10 +6,11 @@ use Rattle.judge.specs.declared.TableRefusal.{TableRefusal}
 use Rattle.judge.specs.Acceptance.{Claim, Accepted, FirstFailure, Within}
 use Rattle.judge.specs.Safety.{SafeAfter}
 use Rattle.judge.specs.Law.{Law}
+use Rattle.records.specs.declared.Books.TheVariants.{Any}
 use Rattle.records.specs.declared.FormFault.{FormFault}
 use Rattle.drafting.specs.Progress.{Progress}
-use Rattle.file_reader.specs.Dossier.{Dossier, dossier_of}
-use Rattle.file_reader.specs.Form.{InForm, Faulty, Reached, OneVerdict}
+use Rattle.reader.specs.Dossier.{Dossier, dossier_of}
+use Rattle.reader.specs.Form.{InForm, Faulty, Reached, OneVerdict}
 use Rattle.line.specs.declared.Verdict.TheVariants.{Accept, Form, Refuse}
 use Rattle.dossier.specs.Meaning.{FileBook, FileState, file_book, book_meaning, file_meaning}
 use Rattle.dossier.specs.Law.{HoldsDossier, FileLaw}
@@ -22,19 +23,19 @@ law_of d b table answer e f law = subst (λ (x : FileBook). Law (book_meaning x)
 apart : {X : Type 0} → ◌≡◌ {A = ℕ} 0 1 → X
 apart z = absurd (omega arith)
 
-module _ (bytes : List ℕ) (one : OneVerdict bytes) where
-  same : (g h : Progress) → InForm bytes g → InForm bytes h → g ≡ h
+module _ (bytes : List ℕ) (one : OneVerdict Any bytes) where
+  same : (g h : Progress) → InForm Any bytes g → InForm Any bytes h → g ≡ h
   same g h a b = let e : ◌≡◌ {A = Result Progress FormFault} (Ok g) (Ok h) = one.alone (Ok g) a ∙ sym (one.alone (Ok h) b) in cc
 
-  not_both : {X : Type 0} (g : Progress) (f : FormFault) → InForm bytes g → Faulty bytes f → X
+  not_both : {X : Type 0} (g : Progress) (f : FormFault) → InForm Any bytes g → Faulty Any bytes f → X
   not_both g f a b = let e : ◌≡◌ {A = Result Progress FormFault} (Ok g) (Err f) = one.alone (Ok g) a ∙ sym (one.alone (Err f) b) in apart (cc)
 
   -- A file that is not in form.
-  pub faulty_law : (f : FormFault) → Faulty bytes f → FileLaw bytes (Form f)
+  pub faulty_law : (f : FormFault) → Faulty Any bytes f → FileLaw bytes (Form f)
   faulty_law f w = record {
     accepts = λ e. apart (cc);
     accepted = λ d h _. not_both h.0 f h.1 w;
-    not_in_form = λ k e. let same-fault : f ≡ k = cc in subst (Faulty bytes) same-fault w;
+    not_in_form = λ k e. let same-fault : f ≡ k = cc in subst (Faulty Any bytes) same-fault w;
     faulty = λ k h. let e : ◌≡◌ {A = Result Progress FormFault} (Err f) (Err k) = one.alone (Err f) w ∙ sym (one.alone (Err k) h) in cc;
     refuses = λ k e. apart (cc);
     refused = λ d k h _. not_both h.0 f h.1 w;
@@ -44,11 +45,11 @@ module _ (bytes : List ℕ) (one : OneVerdict bytes) where
   }
 
   -- The fault of a file, or want of memory.
-  pub fault_law : (o : Option FormFault) → MatchOption o (Reached bytes) (Faulty bytes) → IfSome (verdict_of (Err (of_form o))) (FileLaw bytes)
+  pub fault_law : (o : Option FormFault) → MatchOption o (Reached Any bytes) (Faulty Any bytes) → IfSome (verdict_of (Err (of_form o))) (FileLaw bytes)
   fault_law None w = tt
   fault_law (Some f) w = faulty_law f w
 
-  module _ (g : Progress) (form : InForm bytes g) where
+  module _ (g : Progress) (form : InForm Any bytes g) where
     -- The dossier is the only one.
     only : (d : Dossier) → HoldsDossier bytes d → dossier_of g ≡ d
     only d h = ap dossier_of (same g h.0 form h.1) ∙ h.2

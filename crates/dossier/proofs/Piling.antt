@@ -8,7 +8,7 @@ use Rattle.observer.specs.declared.Mode.TheVariants.{Zero}
 use Rattle.observer.specs.Mode.{mode_count}
 use Rattle.observer.specs.Observed.{observed, InRange, row_at, cases_below}
 use Rattle.drafting.specs.Progress.{Layer}
-use Rattle.file_reader.specs.Dossier.{LayerIn, LayersIn, BookIn}
+use Rattle.reader.specs.Dossier.{LayerIn, LayersIn, BookIn}
 use Rattle.atoms.specs.Book.{AtomsBook}
 use Rattle.atoms.specs.Range as atoms
 use Rattle.predecessor.specs.Kind.{atoms_meaning}

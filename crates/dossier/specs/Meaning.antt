@@ -19,7 +19,7 @@ use Rattle.judge.specs.declared.Model.{Model}
 use Rattle.pile.specs.Pile.{Piled, PiledBook, PiledState, pile_book, piled_meaning, piled_kind, piled_book, piled_state}
 use Rattle.drafting.specs.Book.{Book, counted, atomic}
 use Rattle.drafting.specs.Progress.{Layer}
-use Rattle.file_reader.specs.Dossier.{Dossier}
+use Rattle.reader.specs.Dossier.{Dossier}
 
 -- The books, states and kinds of files: of atoms, or counted.
 abbrev pub FileBook : Type 0

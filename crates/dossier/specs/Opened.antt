@@ -4,7 +4,7 @@ use Rattle.std.specs.declared.alloc.AllocError.{AllocError}
 use Rattle.line.specs.declared.Verdict.{Verdict}
 use Rattle.line.specs.declared.Verdict.TheVariants.{Accept, Form, Refuse}
 use Rattle.records.specs.declared.FormFault.{FormFault}
-use Rattle.file_reader.specs.Dossier.{Dossier}
+use Rattle.reader.specs.Dossier.{Dossier}
 use Rattle.dossier.specs.declared.opening.NoModel.{NoModel}
 use Rattle.dossier.specs.declared.opening.NoModel.TheVariants.{NotInForm, TableRefused, OutOfMemory}
 use Rattle.dossier.specs.Meaning.{file_book, file_meaning, FileModel, model_book, model_state}

@@ -6,7 +6,7 @@ ghost use Rattle.atoms.specs.Data as atomic;
 ghost use Rattle.atoms.specs.Range as atoms-range;
 ghost use Rattle.predecessor.specs.Kind.{atoms_meaning};
 ghost use Rattle.drafting.specs.Drafted.{draft_book_of, layers_of};
-ghost use Rattle.file_reader.specs.Dossier.{BookIn};
+ghost use Rattle.reader.specs.Dossier.{BookIn};
 ghost use Rattle.pile.specs.Pile.{PileIn, pile_book, piled_book};
 ghost use Rattle.dossier.specs.Meaning.{observed_book, kind_book};
 ghost use Rattle.dossier.specs.Building.{ObserversIn};

@@ -7,10 +7,10 @@ ghost use Rattle.dossier.specs.declared.opening.NoModel.TheVariants.{OutOfMemory
 use crate::building::build;
 use crate::kind::FileModel;
 use drafting::Draft;
-use file_reader::read;
+use reader::read;
 use judge::{Model, TableRefusal};
 use line::Verdict;
-use records::{DossierFault, FormFault};
+use records::{Books, DossierFault, FormFault};
 use std::alloc::{AllocError, Global};
 
 /// Why no model is made of a file.
@@ -63,13 +63,14 @@ pub fn open(heap: Global, bytes: &[u8]) -> Result<FileModel, NoModel>
     ensures opens { IfOk result (Opens bytes.now) }
 {
     let Draft {
+        books: _,
         section: _,
         observers: _,
         places: _,
         book,
         layers,
         entries,
-    } = read(heap, bytes)?;
+    } = read(heap, Books::Any, bytes)?;
     let kind = build(heap, book, layers)?;
     Model::new(kind, &entries).map_err(|rejected| NoModel::TableRefused(rejected.refusal))
 }

@@ -1,2 +1,3 @@
+pub mod Heads
 pub mod Pushing
 pub mod Taking

@@ -14,8 +14,8 @@ pub claim_parts : (r : ℕ) (m : List ℕ) (r' : ℕ) (m' : List ℕ) → r ≡ 
 claim_parts r m r' m' e f = λ i. record { row = e i; matching = f i }
 
 module _ (g : Progress) (b : List ℕ) where
-  pub layer_added : (layers : List Layer) → layers ≡ g.layers ++ record { moves = map mode_of b; rows = [] } ∷ [] → record { section = section.Moves; observers = g.observers; places = g.places; book = g.book; layers = layers; entries = g.entries } ≡ advance g kind.Moves b
-  layer_added layers e = ap (λ (xs : List Layer). record { section = section.Moves; observers = g.observers; places = g.places; book = g.book; layers = xs; entries = g.entries }) e
+  pub layer_added : (layers : List Layer) → layers ≡ g.layers ++ record { moves = map mode_of b; rows = [] } ∷ [] → record { books = g.books; section = section.Moves; observers = g.observers; places = g.places; book = g.book; layers = layers; entries = g.entries } ≡ advance g kind.Moves b
+  layer_added layers e = ap (λ (xs : List Layer). record { books = g.books; section = section.Moves; observers = g.observers; places = g.places; book = g.book; layers = xs; entries = g.entries }) e
 
-  pub entry_added : (entries : List Claim) → entries ≡ g.entries ++ record { row = get_or b 0 0; matching = drop 1 b } ∷ [] → record { section = section.Entries; observers = g.observers; places = g.places; book = g.book; layers = g.layers; entries = entries } ≡ advance g kind.Entry b
-  entry_added entries e = ap (λ (xs : List Claim). record { section = section.Entries; observers = g.observers; places = g.places; book = g.book; layers = g.layers; entries = xs }) e
+  pub entry_added : (entries : List Claim) → entries ≡ g.entries ++ record { row = get_or b 0 0; matching = drop 1 b } ∷ [] → record { books = g.books; section = section.Entries; observers = g.observers; places = g.places; book = g.book; layers = g.layers; entries = entries } ≡ advance g kind.Entry b
+  entry_added entries e = ap (λ (xs : List Claim). record { books = g.books; section = section.Entries; observers = g.observers; places = g.places; book = g.book; layers = g.layers; entries = xs }) e

@@ -5,8 +5,10 @@ use Rattle.counts.specs.Counted.{CountedBook}
 use Rattle.atoms.specs.Book.{AtomsBook}
 use Rattle.bodies.specs.Lists.{atoms_in, atoms_of}
 use Rattle.bodies.specs.Rule as atoms
+use Rattle.records.specs.declared.BookKind.{BookKind}
 use Rattle.records.specs.declared.BookKind.TheVariants.{Atoms, Counts}
-use Rattle.records.specs.Number.{book_number}
+use Rattle.records.specs.declared.Books.{Books}
+use Rattle.records.specs.Number.{book_number, hold}
 use Rattle.records.specs.Field.{words}
 
 -- A book of either kind, as plain data.
@@ -21,9 +23,14 @@ none = counted (record { opening = []; rules = []; rows = [] })
 abbrev pub begun : ℕ → Book
 begun kind = cond (kind == book_number Atoms) (atomic (record { opening = []; rules = []; rows = [] })) none
 
--- Kind and places of a head: none for atoms, 1 to 12 for counts.
-abbrev pub places_in : ℕ → ℕ → Bool
-places_in kind n = (kind == book_number Atoms && n == 0) || (kind == book_number Counts && (nat_le 1 n && nat_le n most_places))
+-- The kind of a book.
+abbrev pub book_kind : Book → BookKind
+book_kind (counted _) = Counts
+book_kind (atomic _) = Atoms
+
+-- Kind and places of a head: a kind that the file may hold, with no places for atoms, 1 to 12 for counts.
+abbrev pub places_in : Books → ℕ → ℕ → Bool
+places_in books kind n = (hold books Atoms && (kind == book_number Atoms && n == 0)) || (hold books Counts && (kind == book_number Counts && (nat_le 1 n && nat_le n most_places)))
 
 abbrev pub rule_count : Book → ℕ
 rule_count (counted b) = length b.rules

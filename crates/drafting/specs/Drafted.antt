@@ -31,7 +31,7 @@ layers_of (One l) = layer_of l ∷ []
 layers_of (Two l m) = layer_of l ∷ layer_of m ∷ []
 
 abbrev pub progress_of : Draft → Progress
-progress_of d = record { section = d.section; observers = observers_number d.observers; places = d.places; book = draft_book_of d.book; layers = layers_of d.layers; entries = claims (vec_items d.entries) }
+progress_of d = record { books = d.books; section = d.section; observers = observers_number d.observers; places = d.places; book = draft_book_of d.book; layers = layers_of d.layers; entries = claims (vec_items d.entries) }
 
 module _ (g : Progress) (k : RecordKind) (body : List ℕ) (place : ℕ) where
   -- A record that is allowed, with a body of the right length: it is taken if its numbers are in range.

@@ -10,6 +10,7 @@ use Rattle.records.specs.declared.RecordKind.{RecordKind}
 use Rattle.records.specs.declared.RecordKind.TheVariants as kind
 use Rattle.records.specs.declared.Section.{Section}
 use Rattle.records.specs.declared.Section.TheVariants as section
+use Rattle.records.specs.declared.Books.{Books}
 use Rattle.records.specs.declared.Observers.TheVariants.{Two}
 use Rattle.records.specs.Number.{observers_number}
 use Rattle.records.specs.Order.{comes_after, leads_to, among}
@@ -21,8 +22,9 @@ pub record Layer : Type 0 where
   pub moves : List Mode
   pub rows : List ObserverRow
 
--- How far the file has come, the head's numbers, the book, the observers from the lowest on, and the entries.
+-- Which kinds of books the file may hold, how far it has come, the head's numbers, the book, the observers from the lowest on, and the entries.
 pub record Progress : Type 0 where
+  pub books : Books
   pub section : Section
   pub observers : ℕ
   pub places : ℕ
@@ -31,8 +33,8 @@ pub record Progress : Type 0 where
   pub entries : List Claim
 
 -- Nothing was read yet.
-abbrev pub start : Progress
-start = record { section = section.Start; observers = 0; places = 0; book = none; layers = []; entries = [] }
+abbrev pub start : Books → Progress
+start books = record { books = books; section = section.Start; observers = 0; places = 0; book = none; layers = []; entries = [] }
 
 -- The rows of the topmost observer, and how many rows there are below it.
 abbrev pub top_rows : List Layer → ℕ
@@ -83,7 +85,7 @@ long g kind.End b = length b == 0
 
 -- Its numbers are in range.
 abbrev pub ranged : Progress → RecordKind → List ℕ → Bool
-ranged g kind.Head b = nat_le (slice_index b 1) (observers_number Two) && places_in (slice_index b 0) (slice_index b 2)
+ranged g kind.Head b = nat_le (slice_index b 1) (observers_number Two) && places_in g.books (slice_index b 0) (slice_index b 2)
 ranged g kind.Opening b = opening_in g.book b
 ranged g kind.Rule b = rule_in g.book b
 ranged g kind.Row b = row_in g.book b
@@ -94,11 +96,11 @@ ranged g kind.End b = true
 
 -- What a record adds.
 abbrev pub advance : Progress → RecordKind → List ℕ → Progress
-advance g kind.Head b = record { section = leads_to kind.Head; observers = slice_index b 1; places = slice_index b 2; book = begun (slice_index b 0); layers = g.layers; entries = g.entries }
-advance g kind.Opening b = record { section = leads_to kind.Opening; observers = g.observers; places = g.places; book = with_opening g.book b; layers = g.layers; entries = g.entries }
-advance g kind.Rule b = record { section = leads_to kind.Rule; observers = g.observers; places = g.places; book = with_rule g.places g.book b; layers = g.layers; entries = g.entries }
-advance g kind.Row b = record { section = leads_to kind.Row; observers = g.observers; places = g.places; book = with_row g.book b; layers = g.layers; entries = g.entries }
-advance g kind.Moves b = record { section = leads_to kind.Moves; observers = g.observers; places = g.places; book = g.book; layers = g.layers ++ record { moves = map mode_of b; rows = [] } ∷ []; entries = g.entries }
-advance g kind.ObserverRow b = record { section = leads_to kind.ObserverRow; observers = g.observers; places = g.places; book = g.book; layers = with_observer_row g.layers (record { below = slice_index b 0; mode = mode_of (slice_index b 1) }); entries = g.entries }
-advance g kind.Entry b = record { section = leads_to kind.Entry; observers = g.observers; places = g.places; book = g.book; layers = g.layers; entries = g.entries ++ record { row = slice_index b 0; matching = drop 1 b } ∷ [] }
-advance g kind.End b = record { section = leads_to kind.End; observers = g.observers; places = g.places; book = g.book; layers = g.layers; entries = g.entries }
+advance g kind.Head b = record { books = g.books; section = leads_to kind.Head; observers = slice_index b 1; places = slice_index b 2; book = begun (slice_index b 0); layers = g.layers; entries = g.entries }
+advance g kind.Opening b = record { books = g.books; section = leads_to kind.Opening; observers = g.observers; places = g.places; book = with_opening g.book b; layers = g.layers; entries = g.entries }
+advance g kind.Rule b = record { books = g.books; section = leads_to kind.Rule; observers = g.observers; places = g.places; book = with_rule g.places g.book b; layers = g.layers; entries = g.entries }
+advance g kind.Row b = record { books = g.books; section = leads_to kind.Row; observers = g.observers; places = g.places; book = with_row g.book b; layers = g.layers; entries = g.entries }
+advance g kind.Moves b = record { books = g.books; section = leads_to kind.Moves; observers = g.observers; places = g.places; book = g.book; layers = g.layers ++ record { moves = map mode_of b; rows = [] } ∷ []; entries = g.entries }
+advance g kind.ObserverRow b = record { books = g.books; section = leads_to kind.ObserverRow; observers = g.observers; places = g.places; book = g.book; layers = with_observer_row g.layers (record { below = slice_index b 0; mode = mode_of (slice_index b 1) }); entries = g.entries }
+advance g kind.Entry b = record { books = g.books; section = leads_to kind.Entry; observers = g.observers; places = g.places; book = g.book; layers = g.layers; entries = g.entries ++ record { row = slice_index b 0; matching = drop 1 b } ∷ [] }
+advance g kind.End b = record { books = g.books; section = leads_to kind.End; observers = g.observers; places = g.places; book = g.book; layers = g.layers; entries = g.entries }

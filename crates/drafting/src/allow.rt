@@ -6,18 +6,19 @@ ghost use Rattle.drafting.specs.Drafted.{progress_of};
 use crate::draft::{Draft, DraftBook, Layers};
 use observer::Mode;
 use pattern::{MAX_ROWS, MAX_RULES};
-use records::{BookKind, Observers, RecordKind, Section};
+use records::{BookKind, Books, Observers, RecordKind, Section};
 use std::alloc::Global;
 
 /// The most bytes of a matching.
 const MAX_MATCHING: usize = 5;
 
 impl Draft {
-    /// Nothing was read yet.
-    pub fn new(heap: Global) -> Draft
-        ensures { progress_of result ≡ start }
+    /// Nothing was read yet of a file that may hold such books.
+    pub fn new(heap: Global, books: Books) -> Draft
+        ensures { progress_of result ≡ start books }
     {
         Draft {
+            books,
             section: Section::Start,
             observers: Observers::None,
             places: 0,
@@ -48,7 +49,7 @@ impl Draft {
     fn has_room(&self, kind: RecordKind) -> bool
         ensures { result ≡ room (progress_of self.now) kind }
     {
-        let observers = usize::from(self.observers.number());
+        let observers = usize::from(u8::from(self.observers));
         match kind {
             RecordKind::Head | RecordKind::Opening => true,
             RecordKind::Rule => self.book.rule_count() < MAX_RULES,

@@ -2,7 +2,7 @@ use atoms::Book;
 use counts::Net;
 use judge::Entry;
 use observer::{Mode, ObserverRow};
-use records::{Observers, Section};
+use records::{Books, Observers, Section};
 
 /// The book of a file, as far as it was read.
 #[derive(Drop)]
@@ -26,9 +26,10 @@ pub enum Layers {
     Two(Layer, Layer),
 }
 
-/// What the records of a file hold, as far as it was read.
+/// What the records of a file hold, as far as it was read, and which kinds of books it may hold.
 #[derive(Drop)]
 pub struct Draft {
+    pub books: Books,
     pub section: Section,
     pub observers: Observers,
     pub places: u8,

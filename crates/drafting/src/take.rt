@@ -11,13 +11,14 @@ use counts::net::MAX_PLACES;
 use judge::Entry;
 use observer::ObserverRow;
 use records::{
-    Body, BookKind, FieldFault, Observers, Record, RecordFault, Section, read_mode, read_modes,
+    Body, BookKind, Books, FieldFault, Observers, Record, RecordFault, Section, read_mode,
+    read_modes,
 };
 use std::alloc::Global;
 
 impl Draft {
     /// The head: the kind of the book, how many observers, how many places.
-    fn take_head(mut self, heap: Global, body: Body<'_>) -> Result<Draft, RecordFault>
+    fn take_head(self, heap: Global, body: Body<'_>) -> Result<Draft, RecordFault>
         requires { length body.bytes.now ≡ 3 }
         ensures { Took (progress_of self) HeadKind body.entry.bytes.now body.entry.place result }
     {
@@ -25,20 +26,18 @@ impl Draft {
         let [kind, observers, places] = body.bytes else {
             return Err(RecordFault::Field(fault));
         };
-        let Some(observers) = Observers::new(*observers) else {
-            return Err(RecordFault::Field(fault));
-        };
-        let Some(kind) = BookKind::new(*kind) else {
-            return Err(RecordFault::Field(fault));
-        };
-        if !places_fit(kind, *places) {
+        let observers = Observers::try_from(*observers).map_err(|_| fault)?;
+        let kind = BookKind::try_from(*kind).map_err(|_| fault)?;
+        if !places_fit(self.books, kind, *places) {
             return Err(RecordFault::Field(fault));
         }
-        self.section = Section::Head;
-        self.observers = observers;
-        self.places = *places;
-        self.book = DraftBook::new(heap, kind);
-        Ok(self)
+        Ok(Draft {
+            section: Section::Head,
+            observers,
+            places: *places,
+            book: DraftBook::new(heap, kind),
+            ..self
+        })
     }
 
     /// The opening of the book.
@@ -166,12 +165,13 @@ impl Draft {
     }
 }
 
-/// Whether a book of a kind may have so many places: none for atoms, 1 to 12 for counts.
-fn places_fit(kind: BookKind, places: u8) -> bool
-    ensures { result ≡ places_in (book_number kind) places }
+/// Whether a file may hold a book of a kind with so many places: none for atoms, 1 to 12 for counts.
+fn places_fit(books: Books, kind: BookKind, places: u8) -> bool
+    ensures { result ≡ places_in books (book_number kind) places }
 {
-    match kind {
-        BookKind::Atoms => places == 0,
-        BookKind::Counts => 1 <= places && usize::from(places) <= MAX_PLACES,
-    }
+    books.hold(kind)
+        && match kind {
+            BookKind::Atoms => places == 0,
+            BookKind::Counts => 1 <= places && usize::from(places) <= MAX_PLACES,
+        }
 }

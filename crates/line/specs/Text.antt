@@ -1,7 +1,7 @@
 -- The line that reports a verdict, byte by byte, and what writing it leaves.
 use Rattle.std.specs.Prelude.{◌≡◌, ℕ, ◌^◌, ◌<◌, List, [], ◌∷◌, ◌++◌, length, drop, Ok, Err, codes, decimal, Result}
 use Rattle.judge.specs.Number.{table_ground_number}
-use Rattle.records.specs.Number.{form_ground_number}
+use Rattle.records.specs.Fault.{fault_text}
 use Rattle.line.specs.declared.verdict.LineRefusal.{LineRefusal}
 use Rattle.line.specs.declared.verdict.LineRefusal.TheVariants.{BufferTooShort}
 use Rattle.line.specs.declared.verdict.NoLine.{NoLine}
@@ -13,10 +13,15 @@ use Rattle.line.specs.declared.verdict.Verdict.TheVariants.{Accept, Form, Refuse
 abbrev pub line_refusal_number : LineRefusal → ℕ
 line_refusal_number BufferTooShort = 27
 
+-- Why there is no line, in words.
+abbrev pub without_line : NoLine → List ℕ
+without_line (Refused BufferTooShort) = codes "the buffer is too short"
+without_line OutOfMemory = codes "out of memory"
+
 -- The verdict in words; numbers are decimal.
 abbrev pub text_of : Verdict → List ℕ
 text_of Accept = codes "ACCEPT"
-text_of (Form f) = codes "FORM " ++ (decimal (form_ground_number f.reason) ++ (codes " at " ++ decimal f.place))
+text_of (Form f) = codes "FORM " ++ fault_text f
 text_of (Refuse f) = codes "REFUSE " ++ (decimal (table_ground_number f.reason) ++ (codes " row " ++ (decimal f.case.row ++ (codes " rule " ++ (decimal f.case.rule ++ (codes " case " ++ (decimal f.case.number ++ (codes " entry " ++ decimal f.entry))))))))
 
 -- The line: the verdict and a line feed.

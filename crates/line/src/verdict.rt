@@ -1,10 +1,11 @@
 ghost use Rattle.std.specs.Prelude.{◌≡◌, Some};
-ghost use Rattle.line.specs.Text.{text_of, line_refusal_number};
+ghost use Rattle.line.specs.Text.{text_of, line_refusal_number, without_line};
 ghost use Rattle.line.specs.declared.verdict.NoLine.TheVariants.{OutOfMemory as MemoryVariant};
 
 use judge::TableRefusal;
 use records::FormFault;
 use std::alloc::AllocError;
+use std::error::Error;
 use std::fmt;
 
 /// What is to be said of a file.
@@ -25,12 +26,12 @@ pub enum LineRefusal {
     BufferTooShort = 27,
 }
 
-impl LineRefusal {
-    /// The number by which the refusal is reported.
-    pub fn number(self) -> u8
-        ensures { result ≡ line_refusal_number self }
-    {
-        self as u8
+/// The number by which a refusal is reported.
+impl From<LineRefusal> for u8 {
+    ghost from_gives = { λ r n. n ≡ line_refusal_number r };
+
+    fn from(refusal: LineRefusal) -> u8 {
+        refusal as u8
     }
 }
 
@@ -40,6 +41,19 @@ pub enum NoLine {
     Refused(LineRefusal),
     OutOfMemory,
 }
+
+impl fmt::Display for NoLine {
+    ghost output = { λ n. Some (without_line n) };
+
+    fn fmt<W: fmt::Write>(&self, f: &mut fmt::Formatter<W>) -> fmt::Result {
+        match self {
+            NoLine::Refused(LineRefusal::BufferTooShort) => write!(f, "the buffer is too short"),
+            NoLine::OutOfMemory => write!(f, "out of memory"),
+        }
+    }
+}
+
+impl Error for NoLine {}
 
 impl From<AllocError> for NoLine {
     ghost from_gives = { λ _ r. r ≡ MemoryVariant };
@@ -55,11 +69,7 @@ impl fmt::Display for Verdict {
     fn fmt<W: fmt::Write>(&self, f: &mut fmt::Formatter<W>) -> fmt::Result {
         match self {
             Verdict::Accept => write!(f, "ACCEPT"),
-            Verdict::Form(fault) => {
-                let ground = fault.reason.number();
-                let place = fault.place;
-                write!(f, "FORM {ground} at {place}")
-            }
+            Verdict::Form(fault) => write!(f, "FORM {fault}"),
             Verdict::Refuse(refusal) => {
                 let ground = refusal.reason.number();
                 let row = refusal.case.row;

@@ -1,21 +1,22 @@
 -- How far a file is in form, record by record.
-use Rattle.std.proofs.Common.{◌≡◌, ℕ, ◌+◌, ◌<◌, ◌≤◌, List, length, drop, IfSome, Ok, Err, sym, ap, ◌∙◌, arith}
+use Rattle.std.proofs.Common.{◌≡◌, ℕ, ◌+◌, ◌<◌, ◌≤◌, List, length, drop, Ok, Err, sym, ap, ◌∙◌, arith, MatchOption}
 use Rattle.std.proofs.lemmas.List.{length-drop, drop-drop}
-use Rattle.reader.specs.declared.draft.Draft.{Draft}
-use Rattle.reader.specs.declared.fault.DossierFault.TheVariants.{Record}
-use Rattle.reader.specs.declared.fault.FormGround.TheVariants as ground
-use Rattle.reader.specs.declared.fault.RecordFault.{RecordFault}
-use Rattle.reader.specs.declared.fault.RecordFault.TheVariants.{KindNotAllowed, WrongLength, Field, OutOfMemory}
-use Rattle.reader.specs.declared.record.RecordKind.{RecordKind}
-use Rattle.reader.specs.declared.section.Section.TheVariants as section
-use Rattle.reader.specs.Number.{record_number}
-use Rattle.reader.specs.Bytes.{length_at, kind_at, body_at}
-use Rattle.reader.specs.Fault.{form_of}
-use Rattle.reader.specs.Progress.{Progress}
-use Rattle.reader.specs.Form.{most_bytes, StandsAt, At, more, Faulty, cut_short, unknown_kind, misplaced, after_end, wrong_length, out_of_range}
-use Rattle.reader.specs.Drafted.{progress_of, Answered}
+use Rattle.drafting.specs.declared.Draft.{Draft}
+use Rattle.records.specs.declared.Books.{Books}
+use Rattle.records.specs.declared.DossierFault.TheVariants.{Record}
+use Rattle.records.specs.declared.FormGround.TheVariants as ground
+use Rattle.records.specs.declared.RecordFault.{RecordFault}
+use Rattle.records.specs.declared.RecordFault.TheVariants.{KindNotAllowed, WrongLength, Field, Literal, OutOfMemory}
+use Rattle.records.specs.declared.RecordKind.{RecordKind}
+use Rattle.records.specs.declared.Section.TheVariants as section
+use Rattle.records.specs.Number.{record_number, NoRecord}
+use Rattle.records.specs.Bytes.{length_at, kind_at, body_at}
+use Rattle.records.specs.Fault.{form_of}
+use Rattle.drafting.specs.Progress.{Progress}
+use Rattle.reader.specs.Form.{most_bytes, StandsAt, At, more, Faulty, cut_short, unknown_kind, misplaced, after_end, wrong_length, out_of_range, Reached}
+use Rattle.drafting.specs.Drafted.{progress_of, Answered}
 
-module _ (bytes rest : List ℕ) (p : ℕ) (g : Progress) (at : At bytes p g) (within : p ≤ length bytes) (rest-is : rest ≡ drop p bytes) (short : length bytes ≤ most_bytes) where
+module _ {books : Books} (bytes rest : List ℕ) (p : ℕ) (g : Progress) (at : At books bytes p g) (within : p ≤ length bytes) (rest-is : rest ≡ drop p bytes) (short : length bytes ≤ most_bytes) where
   rest_long : p + length rest ≡ length bytes
   rest_long = omega (arith, ap length rest-is, length-drop p bytes)
 
@@ -23,12 +24,12 @@ module _ (bytes rest : List ℕ) (p : ℕ) (g : Progress) (at : At bytes p g) (w
   length_here = ap length_at rest-is
 
   -- Bytes are left after the end.
-  pub left_after_end : g.section ≡ section.End → 0 < length rest → Faulty bytes (record { reason = ground.KindNotAllowed; place = p })
+  pub left_after_end : g.section ≡ section.End → 0 < length rest → Faulty books bytes (record { reason = ground.KindNotAllowed; place = p })
   left_after_end e h = after_end short at e (omega (arith, rest_long))
 
   module _ (unended : g.section ≡ section.End → ⊥) where
     -- No whole record is left.
-    pub cut : length rest < 4 + length_at rest → Faulty bytes (record { reason = ground.CutShort; place = p })
+    pub cut : length rest < 4 + length_at rest → Faulty books bytes (record { reason = ground.CutShort; place = p })
     cut h = cut_short short at unended (omega (arith, rest_long, length_here))
 
     module _ (whole : 4 + length_at rest ≤ length rest) where
@@ -39,7 +40,7 @@ module _ (bytes rest : List ℕ) (p : ℕ) (g : Progress) (at : At bytes p g) (w
       next_rest after e = e ∙ ap (λ (xs : List ℕ). drop (4 + length_at rest) xs) rest-is ∙ drop-drop (4 + length_at rest) p bytes
 
       -- The record is of no kind.
-      pub unknown : ((k : RecordKind) → record_number k ≡ kind_at rest → ⊥) → Faulty bytes (record { reason = ground.KindNotAllowed; place = p })
+      pub unknown : NoRecord (kind_at rest) → Faulty books bytes (record { reason = ground.KindNotAllowed; place = p })
       unknown none = unknown_kind short at unended (omega (arith, next_within, length_here)) (λ k e. none k (e ∙ sym (ap kind_at rest-is)))
 
       module _ (k : RecordKind) (kind_is : kind_at rest ≡ record_number k) where
@@ -54,12 +55,13 @@ module _ (bytes rest : List ℕ) (p : ℕ) (g : Progress) (at : At bytes p g) (w
           same_long = body-long ∙ length_here
 
           -- The record is refused.
-          pub refused : (e : RecordFault) → Answered g k body p (Err e) → IfSome (form_of (Record e)) (Faulty bytes)
+          pub refused : (e : RecordFault) → Answered g k body p (Err e) → MatchOption (form_of (Record e)) (Reached books bytes) (Faulty books bytes)
           refused (KindNotAllowed q) w = rw w.0 (misplaced short at stands w.1)
-          refused (WrongLength q) w = rw w.0 (wrong_length short at stands w.1 (rw same_long at w.2))
-          refused (Field f) w = rw w.0 (out_of_range short at stands w.1 (rw same_long at w.2) (rw same_body at w.3))
-          refused OutOfMemory w = tt
+          refused (WrongLength q) w = rw w.0 (wrong_length short at stands w.1 (rw same_body at w.2))
+          refused (Field f) w = rw w.0 (out_of_range short at stands w.1 (rw same_body at w.2) (rw same_body at w.3))
+          refused (Literal f) w = rw w.0 (out_of_range short at stands w.1 (rw same_body at w.2) (rw same_body at w.3))
+          refused OutOfMemory w = record { place = p; held = g; kind = k; short = short; before = at; here = stands; is_allowed = w.0; is_long = rw same_body at w.1 }
 
           -- The record is taken.
-          pub read_on : (d : Draft) → Answered g k body p (Ok d) → At bytes (p + (4 + length body)) (progress_of d)
-          read_on d w = rw (w.3, same_long, same_body) (more at stands w.0 (rw same_long at w.1) (rw same_body at w.2))
+          pub read_on : (d : Draft) → Answered g k body p (Ok d) → At books bytes (p + (4 + length body)) (progress_of d)
+          read_on d w = rw (w.3, same_long, same_body) (more at stands w.0 (rw same_body at w.1) (rw same_body at w.2))

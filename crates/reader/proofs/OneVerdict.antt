@@ -1,16 +1,19 @@
 -- A file comes to one verdict: where its records stop being in form is computed by a function.
 use Rattle.std.proofs.Common.{◌≡◌, ℕ, ◌+◌, ◌<◌, ◌≤◌, Bool, true, false, cond, eqb, ltb, List, length, drop, Some, None, Ok, Err, Option, Result, sym, refl, ap, ◌∙◌, subst, inl, inr, arith}
 use Rattle.std.proofs.lemmas.Bool.{cond-true, cond-false, cases_lt, ne_eqb, lt-ltb, le-ltb}
-use Rattle.reader.specs.declared.fault.FormGround.{FormGround}
-use Rattle.reader.specs.declared.fault.FormGround.TheVariants as ground
-use Rattle.reader.specs.declared.fault.FormFault.{FormFault}
-use Rattle.reader.specs.declared.record.RecordKind.{RecordKind}
-use Rattle.reader.specs.declared.record.RecordKind.TheVariants as kind
-use Rattle.reader.specs.declared.section.Section.{Section}
-use Rattle.reader.specs.declared.section.Section.TheVariants as section
-use Rattle.reader.specs.Number.{record_number}
-use Rattle.reader.specs.Bytes.{length_at, kind_at, body_at}
-use Rattle.reader.specs.Progress.{Progress, start, section_number, allowed, long, ranged, advance}
+use Rattle.records.specs.declared.Books.{Books}
+use Rattle.records.specs.declared.FormGround.{FormGround}
+use Rattle.records.specs.declared.FormGround.TheVariants as ground
+use Rattle.records.specs.declared.FormFault.{FormFault}
+use Rattle.records.specs.declared.RecordKind.{RecordKind}
+use Rattle.records.specs.declared.RecordKind.TheVariants as kind
+use Rattle.records.specs.declared.Section.{Section}
+use Rattle.records.specs.declared.Section.TheVariants as section
+use Rattle.records.specs.Number.{record_number, NoRecord}
+use Rattle.records.specs.Bytes.{length_at, kind_at, body_at}
+use Rattle.records.specs.Order.{section_number}
+use Rattle.drafting.specs.Progress.{Progress, start, allowed, long, ranged, advance}
+use Rattle.reader.proofs.SomeVerdict.{comes_to}
 use Rattle.reader.specs.Form.{most_bytes, StandsAt, At, begins, more, Faulty, too_long, cut_short, unknown_kind, misplaced, after_end, wrong_length, out_of_range, Verdict, OneVerdict}
 
 -- The kind with a number.
@@ -28,7 +31,7 @@ of_kind kind.ObserverRow = refl
 of_kind kind.Entry = refl
 of_kind kind.End = refl
 
-of_none : (n : ℕ) → ((k : RecordKind) → record_number k ≡ n → ⊥) → kind_of n ≡ None
+of_none : (n : ℕ) → NoRecord n → kind_of n ≡ None
 unfolding kind_of
 of_none n none = cond-false {A = Option RecordKind} (eqb n (record_number kind.Head)) (Some kind.Head) _ (ne_eqb n (record_number kind.Head) (λ e. none kind.Head (sym e))) ∙ cond-false {A = Option RecordKind} (eqb n (record_number kind.Opening)) (Some kind.Opening) _ (ne_eqb n (record_number kind.Opening) (λ e. none kind.Opening (sym e))) ∙ cond-false {A = Option RecordKind} (eqb n (record_number kind.Rule)) (Some kind.Rule) _ (ne_eqb n (record_number kind.Rule) (λ e. none kind.Rule (sym e))) ∙ cond-false {A = Option RecordKind} (eqb n (record_number kind.Row)) (Some kind.Row) _ (ne_eqb n (record_number kind.Row) (λ e. none kind.Row (sym e))) ∙ cond-false {A = Option RecordKind} (eqb n (record_number kind.Moves)) (Some kind.Moves) _ (ne_eqb n (record_number kind.Moves) (λ e. none kind.Moves (sym e))) ∙ cond-false {A = Option RecordKind} (eqb n (record_number kind.ObserverRow)) (Some kind.ObserverRow) _ (ne_eqb n (record_number kind.ObserverRow) (λ e. none kind.ObserverRow (sym e))) ∙ cond-false {A = Option RecordKind} (eqb n (record_number kind.Entry)) (Some kind.Entry) _ (ne_eqb n (record_number kind.Entry) (λ e. none kind.Entry (sym e))) ∙ cond-false {A = Option RecordKind} (eqb n (record_number kind.End)) (Some kind.End) _ (ne_eqb n (record_number kind.End) (λ e. none kind.End (sym e)))
 
@@ -54,11 +57,11 @@ of_unended section.End n = absurd (n refl)
 fault : FormGround → ℕ → Option (Result Progress FormFault)
 fault g p = Some (Err (record { reason = g; place = p }))
 
-module _ (bytes : List ℕ) where
+module _ (books : Books) (bytes : List ℕ) where
   -- What a record of a kind comes to: a fault, or nothing yet.
   by_kind : ℕ → Progress → Option RecordKind → Option (Result Progress FormFault)
   by_kind p g None = fault ground.KindNotAllowed p
-  by_kind p g (Some k) = cond (allowed g k) (cond (long g k (length_at (drop p bytes))) (cond (ranged g k (body_at (drop p bytes))) None (fault ground.OutOfRange p)) (fault ground.WrongLength p)) (fault ground.KindNotAllowed p)
+  by_kind p g (Some k) = cond (allowed g k) (cond (long g k (body_at (drop p bytes))) (cond (ranged g k (body_at (drop p bytes))) None (fault ground.OutOfRange p)) (fault ground.WrongLength p)) (fault ground.KindNotAllowed p)
 
   -- What the file comes to at a place, if it stops there.
   stop : ℕ → Progress → Option (Result Progress FormFault)
@@ -82,15 +85,15 @@ module _ (bytes : List ℕ) where
   unfolding by_kind
   misplaced_stop p g k a = cond-false {A = Option (Result Progress FormFault)} (allowed g k) _ _ a
 
-  length_stop : (p : ℕ) (g : Progress) (k : RecordKind) → allowed g k ≡ true → long g k (length_at (drop p bytes)) ≡ false → by_kind p g (Some k) ≡ fault ground.WrongLength p
+  length_stop : (p : ℕ) (g : Progress) (k : RecordKind) → allowed g k ≡ true → long g k (body_at (drop p bytes)) ≡ false → by_kind p g (Some k) ≡ fault ground.WrongLength p
   unfolding by_kind
-  length_stop p g k a l = cond-true {A = Option (Result Progress FormFault)} (allowed g k) _ _ a ∙ cond-false {A = Option (Result Progress FormFault)} (long g k (length_at (drop p bytes))) _ _ l
+  length_stop p g k a l = cond-true {A = Option (Result Progress FormFault)} (allowed g k) _ _ a ∙ cond-false {A = Option (Result Progress FormFault)} (long g k (body_at (drop p bytes))) _ _ l
 
-  range_stop : (p : ℕ) (g : Progress) (k : RecordKind) (b : Bool) (o : Option (Result Progress FormFault)) → allowed g k ≡ true → long g k (length_at (drop p bytes)) ≡ true → ranged g k (body_at (drop p bytes)) ≡ b → cond b None (fault ground.OutOfRange p) ≡ o → by_kind p g (Some k) ≡ o
+  range_stop : (p : ℕ) (g : Progress) (k : RecordKind) (b : Bool) (o : Option (Result Progress FormFault)) → allowed g k ≡ true → long g k (body_at (drop p bytes)) ≡ true → ranged g k (body_at (drop p bytes)) ≡ b → cond b None (fault ground.OutOfRange p) ≡ o → by_kind p g (Some k) ≡ o
   unfolding by_kind
   range_stop p g k b o a l r e =
       cond-true {A = Option (Result Progress FormFault)} (allowed g k) _ _ a
-      ∙ cond-true {A = Option (Result Progress FormFault)} (long g k (length_at (drop p bytes))) _ _ l
+      ∙ cond-true {A = Option (Result Progress FormFault)} (long g k (body_at (drop p bytes))) _ _ l
       ∙ ap (λ (x : Bool). cond {A = Option (Result Progress FormFault)} x None (fault ground.OutOfRange p)) r ∙ e
 
   -- From a place on the file comes to a verdict.
@@ -106,7 +109,7 @@ module _ (bytes : List ℕ) where
       let same : k' ≡ k = cc in
       from_one x (subst (λ (n : RecordKind). From (p + (4 + length_at (drop p bytes))) (advance g n (body_at (drop p bytes))) w) same y)
 
-  from_start : {p : ℕ} {g : Progress} {v : Result Progress FormFault} → At bytes p g → From p g v → From 0 start v
+  from_start : {p : ℕ} {g : Progress} {v : Result Progress FormFault} → At books bytes p g → From p g v → From 0 (start books) v
   from_start begins w = w
   from_start (more {p} {g} {k} at s a l r) w = from_start at (goes k (stands_stop p g k s ∙ range_stop p g k true None a l r refl) (kind_here p g k s) w)
 
@@ -123,7 +126,7 @@ module _ (bytes : List ℕ) where
       ∙ cond-true {A = Option (Result Progress FormFault)} (ltb (length bytes) (p + (4 + length_at (drop p bytes)))) _ _ (lt-ltb (length bytes) (p + (4 + length_at (drop p bytes))) h)
 
   module _ (short : length bytes ≤ most_bytes) where
-    faulty_from : {f : FormFault} → Faulty bytes f → From 0 start (Err f)
+    faulty_from : {f : FormFault} → Faulty books bytes f → From 0 (start books) (Err f)
     unfolding fault by_kind
     faulty_from (too_long h) = absurd (omega arith)
     faulty_from (cut_short {p} {g} _ at n h) = from_start at (stops (cut_stop p g n h))
@@ -133,12 +136,12 @@ module _ (bytes : List ℕ) where
     faulty_from (wrong_length {p} {g} {k} _ at s a l) = from_start at (stops (stands_stop p g k s ∙ length_stop p g k a l))
     faulty_from (out_of_range {p} {g} {k} _ at s a l r) = from_start at (stops (stands_stop p g k s ∙ range_stop p g k false _ a l r refl))
 
-    verdict_from : (v : Result Progress FormFault) → Verdict bytes v → From 0 start v
+    verdict_from : (v : Result Progress FormFault) → Verdict books bytes v → From 0 (start books) v
     verdict_from (Ok g) w = from_start w.read (stops (ended_stop (length bytes) g false (Some (Ok g)) w.ended (le-ltb (length bytes) (length bytes) (omega arith)) refl))
     verdict_from (Err f) w = faulty_from w
 
   -- A file that is too long has that fault alone.
-  long_only : most_bytes < length bytes → (v : Result Progress FormFault) → Verdict bytes v → v ≡ Err (record { reason = ground.TooLong; place = 0 })
+  long_only : most_bytes < length bytes → (v : Result Progress FormFault) → Verdict books bytes v → v ≡ Err (record { reason = ground.TooLong; place = 0 })
   long_only h (Ok g) w = absurd (omega (arith, w.short))
   long_only h (Err f) (too_long _) = refl
   long_only h (Err f) (cut_short s _ _ _) = absurd (omega arith)
@@ -148,8 +151,8 @@ module _ (bytes : List ℕ) where
   long_only h (Err f) (wrong_length s _ _ _ _) = absurd (omega arith)
   long_only h (Err f) (out_of_range s _ _ _ _ _) = absurd (omega arith)
 
-  pub one_verdict : OneVerdict bytes
-  one_verdict x y v w = elim (cases_lt most_bytes (length bytes)) [
-    | inl h ↦ long_only h x v ∙ sym (long_only h y w)
-    | inr h ↦ from_one (verdict_from h x v) (verdict_from h y w)
+  pub one_verdict : OneVerdict books bytes
+  one_verdict = elim (cases_lt most_bytes (length bytes)) [
+    | inl h ↦ record { verdict = Err (record { reason = ground.TooLong; place = 0 }); comes = too_long h; alone = long_only h }
+    | inr h ↦ let v = comes_to books bytes h in record { verdict = v.0; comes = v.1; alone = λ other w. from_one (verdict_from h other w) (verdict_from h v.0 v.1) }
   ]

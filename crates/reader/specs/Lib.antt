@@ -1,7 +1,4 @@
-pub mod Number
-pub mod Fault
-pub mod Bytes
-pub mod Record
-pub mod Progress
+pub mod Dossier
 pub mod Form
-pub mod Drafted
+pub mod Encode
+pub mod Read

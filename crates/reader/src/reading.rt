@@ -1,45 +1,34 @@
-ghost use Rattle.std.specs.Prelude.{◌≡◌, Decides};
 ghost use Rattle.reader.specs.Form.{OneVerdict};
-ghost use Rattle.reader.specs.Drafted.{Read};
-ghost use Rattle.reader.specs.declared.section.Section.TheVariants.{End as EndSection};
+ghost use Rattle.std.specs.Prelude.{IfOk};
+ghost use Rattle.reader.specs.Dossier.{dossier_of, Holds, InRange};
+ghost use Rattle.drafting.specs.Drafted.{draft_book_of, progress_of};
+ghost use Rattle.reader.specs.Read.{Read};
+ghost use Rattle.reader.specs.Encode.{EncodingLaw};
 
-use crate::draft::Draft;
-use crate::fault::{DossierFault, RecordFault};
-use crate::record::{Record, RecordKind, take_record};
-use crate::section::Section;
+use drafting::Draft;
+use records::{Books, DossierFault, Record, RecordFault, RecordKind, take_record};
 use std::alloc::Global;
 
 /// The most bytes of a file.
 pub const MAX_BYTES: usize = 65_535;
 
-impl Draft {
-    /// Whether the end was read.
-    fn ended(&self) -> bool
-        ensures { Decides result (self.now.section ≡ EndSection) }
-    {
-        match self.section {
-            Section::End => true,
-            _ => false,
-        }
-    }
-}
-
-/// Reads a file: what its records hold, or the first record at fault.
-pub fn read(heap: Global, bytes: &[u8]) -> Result<Draft, DossierFault>
-    ensures reads { Read bytes.now result }
-    ensures alone { OneVerdict bytes.now }
+/// Reads a file that may hold such books: what its records hold, or the first record at fault.
+pub fn read(heap: Global, books: Books, bytes: &[u8]) -> Result<Draft, DossierFault>
+    ensures reads { Read books bytes.now result }
+    ensures alone { OneVerdict books bytes.now }
+    ensures ranged { IfOk result (λ d. InRange (dossier_of (progress_of d))) }
+    ensures held { IfOk result (λ d. Holds books (draft_book_of d.book)) }
+    ensures encodes { EncodingLaw books bytes.now }
 {
     if bytes.len() > MAX_BYTES {
         return Err(DossierFault::TooLong);
     }
-    let mut draft = Draft::new(heap);
+    let mut draft = Draft::new(heap, books);
     let mut rest = bytes;
     let mut place = 0;
     'records: while !draft.ended() {
         let (number, body, after) = take_record(rest, place)?;
-        let Some(kind) = RecordKind::new(number) else {
-            return Err(DossierFault::Record(RecordFault::KindNotAllowed { place }));
-        };
+        let kind = RecordKind::try_from(number).map_err(|_| RecordFault::KindNotAllowed { place })?;
         draft = draft.accept(heap, Record::new(kind, body))?;
         place += 4 + body.bytes.len();
         rest = after;

@@ -1,7 +1,8 @@
 -- What a fault says of the file.
-use Rattle.std.specs.Prelude.{ℕ, Some, None, Option}
+use Rattle.std.specs.Prelude.{ℕ, List, ◌++◌, Some, None, Option, codes, decimal}
 use Rattle.records.specs.declared.fault.FormGround.TheVariants as ground
 use Rattle.records.specs.declared.fault.FormFault.{FormFault}
+use Rattle.records.specs.Number.{form_ground_number}
 use Rattle.records.specs.declared.fault.LiteralFault.{LiteralFault}
 use Rattle.records.specs.declared.fault.LiteralFault.TheVariants.{Kind, Relation, First, Second}
 use Rattle.records.specs.declared.fault.RecordFault.TheVariants as inner
@@ -25,3 +26,7 @@ form_of (Record (inner.WrongLength place)) = Some (record { reason = ground.Wron
 form_of (Record (inner.Field f)) = Some (record { reason = ground.OutOfRange; place = f.place })
 form_of (Record (inner.Literal f)) = Some (record { reason = ground.OutOfRange; place = literal_place f })
 form_of (Record inner.OutOfMemory) = None
+
+-- The fault in words: the number of its ground, and its place, both decimal.
+abbrev pub fault_text : FormFault → List ℕ
+fault_text f = decimal (form_ground_number f.reason) ++ (codes " at " ++ decimal f.place)

@@ -1,11 +1,13 @@
 -- The numbers of grounds and of record kinds, as their enums define them.
-use Rattle.std.specs.Prelude.{ℕ}
+use Rattle.std.specs.Prelude.{ℕ, Bool, true, false, ◌≢◌}
 use Rattle.records.specs.declared.fault.FormGround.{FormGround}
 use Rattle.records.specs.declared.fault.FormGround.TheVariants.{TooLong, CutShort, KindNotAllowed, WrongLength, OutOfRange}
-use Rattle.records.specs.declared.record.BookKind.{BookKind}
-use Rattle.records.specs.declared.record.BookKind.TheVariants.{Atoms, Counts}
-use Rattle.records.specs.declared.record.Observers.{Observers}
-use Rattle.records.specs.declared.record.Observers.TheVariants.{None, One, Two}
+use Rattle.records.specs.declared.head.BookKind.{BookKind}
+use Rattle.records.specs.declared.head.BookKind.TheVariants.{Atoms, Counts}
+use Rattle.records.specs.declared.head.Books.{Books}
+use Rattle.records.specs.declared.head.Books.TheVariants.{Counted, Any}
+use Rattle.records.specs.declared.head.Observers.{Observers}
+use Rattle.records.specs.declared.head.Observers.TheVariants.{None, One, Two}
 use Rattle.records.specs.declared.record.RecordKind.{RecordKind}
 use Rattle.records.specs.declared.record.RecordKind.TheVariants.{Head, Opening, Rule, Row, Moves, ObserverRow, Entry, End}
 
@@ -26,9 +28,23 @@ record_number ObserverRow = 6
 record_number Entry = 7
 record_number End = 8
 
+-- No kind of record has this number.
+abbrev pub NoRecord : ℕ → Type 0
+NoRecord n = (k : RecordKind) → record_number k ≢ n
+
 abbrev pub book_number : BookKind → ℕ
 book_number Atoms = 1
 book_number Counts = 2
+
+-- No kind of book has this number.
+abbrev pub NoBook : ℕ → Type 0
+NoBook n = (k : BookKind) → book_number k ≢ n
+
+-- A file may hold a book of this kind.
+abbrev pub hold : Books → BookKind → Bool
+hold Any k = true
+hold Counted Counts = true
+hold Counted Atoms = false
 
 abbrev pub observers_number : Observers → ℕ
 observers_number None = 0

@@ -1,10 +1,11 @@
-ghost use Rattle.std.specs.Prelude.{◌≡◌};
+ghost use Rattle.std.specs.Prelude.{◌≡◌, Some as Written};
 ghost use Rattle.records.specs.Number.{form_ground_number};
-ghost use Rattle.records.specs.Fault.{literal_place, form_of};
+ghost use Rattle.records.specs.Fault.{literal_place, form_of, fault_text};
 ghost use Rattle.records.specs.declared.fault.RecordFault.TheVariants.{Field as FieldVariant, Literal as LiteralVariant, OutOfMemory as MemoryVariant};
 ghost use Rattle.records.specs.declared.fault.DossierFault.TheVariants.{Record as RecordVariant};
 
 use std::alloc::{AllocError, AllocFailed};
+use std::fmt;
 
 /// Why a file is not in form.
 #[derive(Clone, Copy, PartialEq, Eq, Debug)]
@@ -21,12 +22,12 @@ pub enum FormGround {
     OutOfRange = 5,
 }
 
-impl FormGround {
-    /// The number by which the ground is reported.
-    pub fn number(self) -> u8
-        ensures { result ≡ form_ground_number self }
-    {
-        self as u8
+/// The number by which a ground is reported.
+impl From<FormGround> for u8 {
+    ghost from_gives = { λ g n. n ≡ form_ground_number g };
+
+    fn from(ground: FormGround) -> u8 {
+        ground as u8
     }
 }
 
@@ -35,6 +36,16 @@ impl FormGround {
 pub struct FormFault {
     pub reason: FormGround,
     pub place: usize,
+}
+
+impl fmt::Display for FormFault {
+    ghost output = { λ f. Written (fault_text f) };
+
+    fn fmt<W: fmt::Write>(&self, f: &mut fmt::Formatter<W>) -> fmt::Result {
+        let ground = u8::from(self.reason);
+        let place = self.place;
+        write!(f, "{ground} at {place}")
+    }
 }
 
 /// A number beyond its range, in the record at a place.

@@ -4,10 +4,12 @@
 
 pub mod fault;
 mod field;
+pub mod head;
 pub mod record;
 pub mod section;
 
 pub use fault::{DossierFault, FieldFault, FormFault, FormGround, LiteralFault, RecordFault};
 pub use field::{read_mode, read_modes, read_words};
-pub use record::{Body, BookKind, Observers, Record, RecordKind, take_record};
+pub use head::{BookKind, Books, NoSuchBook, Observers, TooManyObservers};
+pub use record::{Body, NoSuchRecord, Record, RecordKind, take_record};
 pub use section::Section;

@@ -1,5 +1,5 @@
-ghost use Rattle.std.specs.Prelude.{◌≡◌, ◌+◌, ◌<◌, ◌≤◌, length, drop, MatchOption, MatchResult, ◌≢◌};
-ghost use Rattle.records.specs.Number.{record_number, book_number, observers_number};
+ghost use Rattle.std.specs.Prelude.{◌≡◌, ◌+◌, ◌<◌, ◌≤◌, length, drop, MatchResult};
+ghost use Rattle.records.specs.Number.{record_number, NoRecord};
 ghost use Rattle.records.specs.Bytes.{length_at, kind_at, body_at};
 ghost use Rattle.records.specs.Record.{record_kind, body_of, record_place, record_bytes};
 ghost use Rattle.records.specs.declared.fault.DossierFault.TheVariants.{CutShort as CutVariant};
@@ -19,71 +19,28 @@ pub enum RecordKind {
     End = 8,
 }
 
-impl RecordKind {
-    /// The kind with this number.
-    pub fn new(number: u16) -> Option<RecordKind>
-        ensures { MatchOption result ((k : RecordKind) → record_number k ≢ number) (λ k. record_number k ≡ number) }
-    {
-        match number {
-            1 => Some(RecordKind::Head),
-            2 => Some(RecordKind::Opening),
-            3 => Some(RecordKind::Rule),
-            4 => Some(RecordKind::Row),
-            5 => Some(RecordKind::Moves),
-            6 => Some(RecordKind::ObserverRow),
-            7 => Some(RecordKind::Entry),
-            8 => Some(RecordKind::End),
-            _ => None,
-        }
-    }
-}
-
-/// The kinds of books, by their numbers in the head.
+/// A number that no kind of record has.
 #[derive(Clone, Copy, PartialEq, Eq, Debug)]
-pub enum BookKind {
-    Atoms = 1,
-    Counts = 2,
-}
+pub struct NoSuchRecord;
 
-impl BookKind {
-    /// The kind with this number.
-    pub fn new(number: u8) -> Option<BookKind>
-        ensures { MatchOption result ((k : BookKind) → book_number k ≢ number) (λ k. book_number k ≡ number) }
-    {
+/// The kind of record with a number.
+impl TryFrom<u16> for RecordKind {
+    type Error = NoSuchRecord;
+
+    ghost try_from_gives = { λ n r. MatchResult r (λ k. record_number k ≡ n) (λ _. NoRecord n) };
+
+    fn try_from(number: u16) -> Result<RecordKind, NoSuchRecord> {
         match number {
-            1 => Some(BookKind::Atoms),
-            2 => Some(BookKind::Counts),
-            _ => None,
+            1 => Ok(RecordKind::Head),
+            2 => Ok(RecordKind::Opening),
+            3 => Ok(RecordKind::Rule),
+            4 => Ok(RecordKind::Row),
+            5 => Ok(RecordKind::Moves),
+            6 => Ok(RecordKind::ObserverRow),
+            7 => Ok(RecordKind::Entry),
+            8 => Ok(RecordKind::End),
+            _ => Err(NoSuchRecord),
         }
-    }
-}
-
-/// How many observers a dossier has.
-#[derive(Clone, Copy, PartialEq, Eq, Debug)]
-pub enum Observers {
-    None = 0,
-    One = 1,
-    Two = 2,
-}
-
-impl Observers {
-    /// So many observers.
-    pub fn new(number: u8) -> Option<Observers>
-        ensures { MatchOption result (2 < number) (λ o. observers_number o ≡ number) }
-    {
-        match number {
-            0 => Some(Observers::None),
-            1 => Some(Observers::One),
-            2 => Some(Observers::Two),
-            _ => None,
-        }
-    }
-
-    /// How many they are.
-    pub fn number(self) -> u8
-        ensures { result ≡ observers_number self }
-    {
-        self as u8
     }
 }
 
@@ -94,7 +51,7 @@ pub struct Body<'a> {
     pub bytes: &'a [u8],
 }
 
-/// A record, with its body as it stands in the file.
+/// A record, with its body as it stands in the file: the cases borrow their bodies, nothing is copied.
 #[derive(Clone, Copy)]
 pub enum Record<'a> {
     Head(Body<'a>),

@@ -1,4 +1,0 @@
-pub mod Dossier
-pub mod Form
-pub mod Encode
-pub mod Read
