@@ -3,22 +3,16 @@
 
 ghost use Rattle.std.specs.Prelude.{◌<◌};
 
-use anyhow::anyhow;
 use dossier::{MIN_BUFFER, report};
-use line::NoLine;
 use std::alloc::{AllocError, Global};
 use std::io;
 use std::io::{BufRead, BufReader, Write};
 
-fn main(rt: HostRuntime) -> anyhow::Result<()> {
-    run(&rt)
-}
-
 /// Prints the line of each file.
-fn run(rt: &HostRuntime) -> anyhow::Result<()> {
+fn main(rt: HostRuntime) -> anyhow::Result<()> {
     for text in BufReader::new(rt.alloc(), rt.stdin())?.lines(rt.alloc()) {
         let bytes = decoded(rt.alloc(), text?.as_bytes())?;
-        print_line(rt, &bytes)?;
+        print_line(&rt, &bytes)?;
     }
     Ok(())
 }
@@ -26,14 +20,9 @@ fn run(rt: &HostRuntime) -> anyhow::Result<()> {
 /// Prints the line of one file.
 fn print_line(rt: &HostRuntime, bytes: &[u8]) -> anyhow::Result<()> {
     let mut buffer = [0; MIN_BUFFER];
-    match report(rt.alloc(), bytes, &mut buffer) {
-        Ok(length) => {
-            rt.stdout().write_all(&buffer[0..length])?;
-            Ok(())
-        }
-        Err(NoLine::Refused(_)) => Err(anyhow!("the buffer is too short")),
-        Err(NoLine::OutOfMemory) => Err(anyhow!("out of memory")),
-    }
+    let length = report(rt.alloc(), bytes, &mut buffer)?;
+    rt.stdout().write_all(&buffer[..length])?;
+    Ok(())
 }
 
 /// The bytes that hexadecimal digits stand for, two digits a byte; anything else counts as the digit 0.

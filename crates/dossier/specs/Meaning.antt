@@ -5,10 +5,8 @@ use Rattle.pattern.specs.declared.PatternKind.{Ghosts}
 use Rattle.pattern.specs.Meaning.{Meaning}
 use Rattle.literals.specs.State.{State}
 use Rattle.atoms.specs.Book.{AtomsBook}
-use Rattle.predecessor.specs.declared.AtomSystem.{AtomSystem}
 use Rattle.predecessor.specs.Kind.{atoms_meaning}
 use Rattle.predecessor.specs.System.{system_kind}
-use Rattle.counts.specs.declared.Counts.{Counts}
 use Rattle.counts.specs.Net.{Marking}
 use Rattle.counts.specs.Counted.{CountedBook, counted_meaning}
 use Rattle.counts.specs.Kind.{counts_kind}

@@ -2,14 +2,14 @@ ghost use Rattle.std.specs.Prelude.{◌≡◌, IfSome, IfOk};
 ghost use Rattle.records.specs.Fault.{form_of};
 ghost use Rattle.dossier.specs.Law.{FileLaw};
 ghost use Rattle.dossier.specs.Opened.{verdict_without, verdict_of, Given, Opens, of_form};
-ghost use Rattle.dossier.specs.declared.opening.NoModel.TheVariants.{OutOfMemory as MemoryVariant};
+ghost use Rattle.dossier.specs.declared.opening.NoModel.TheVariants.{TableRefused as TableVariant, OutOfMemory as MemoryVariant};
 
 use crate::building::build;
-use crate::kind::FileModel;
+use crate::kind::{FileKind, FileModel};
 use drafting::Draft;
-use reader::read;
-use judge::{Model, TableRefusal};
+use judge::{Model, Rejected, TableRefusal};
 use line::Verdict;
+use reader::read;
 use records::{Books, DossierFault, FormFault};
 use std::alloc::{AllocError, Global};
 
@@ -48,6 +48,14 @@ impl From<DossierFault> for NoModel {
     }
 }
 
+impl From<Rejected<FileKind>> for NoModel {
+    ghost from_gives = { λ rejected r. r ≡ TableVariant rejected.refusal };
+
+    fn from(rejected: Rejected<FileKind>) -> NoModel {
+        NoModel::TableRefused(rejected.refusal)
+    }
+}
+
 impl From<AllocError> for NoModel {
     ghost from_gives = { λ _ r. r ≡ MemoryVariant };
 
@@ -72,5 +80,5 @@ pub fn open(heap: Global, bytes: &[u8]) -> Result<FileModel, NoModel>
         entries,
     } = read(heap, Books::Any, bytes)?;
     let kind = build(heap, book, layers)?;
-    Model::new(kind, &entries).map_err(|rejected| NoModel::TableRefused(rejected.refusal))
+    Ok(Model::new(kind, &entries)?)
 }

@@ -4,3 +4,4 @@ pub mod Acceptance
 pub mod Safety
 pub mod Law
 pub mod Play
+pub mod Text

@@ -1,7 +1,9 @@
-ghost use Rattle.std.specs.Prelude.{◌≡◌};
+ghost use Rattle.std.specs.Prelude.{◌≡◌, Some};
 ghost use Rattle.judge.specs.Number.{table_ground_number};
+ghost use Rattle.judge.specs.Text.{refusal_text};
 
 use pattern::Case;
+use std::fmt;
 
 /// An entry of a table: the row that covers the next open case, and the matching by which it does.
 #[derive(Drop)]
@@ -42,4 +44,18 @@ pub struct TableRefusal {
     pub reason: TableGround,
     pub case: Case,
     pub entry: usize,
+}
+
+impl fmt::Display for TableRefusal {
+    ghost output = { λ refusal. Some (refusal_text refusal) };
+
+    fn fmt<W: fmt::Write>(&self, f: &mut fmt::Formatter<W>) -> fmt::Result {
+        write!(
+            f,
+            "{} {} entry {}",
+            u8::from(self.reason),
+            self.case,
+            self.entry
+        )
+    }
 }

@@ -1,6 +1,6 @@
 -- The line that reports a verdict, byte by byte, and what writing it leaves.
-use Rattle.std.specs.Prelude.{◌≡◌, ℕ, ◌^◌, ◌<◌, List, [], ◌∷◌, ◌++◌, length, drop, Ok, Err, codes, decimal, Result}
-use Rattle.judge.specs.Number.{table_ground_number}
+use Rattle.std.specs.Prelude.{◌≡◌, ℕ, ◌^◌, ◌<◌, List, [], ◌∷◌, ◌++◌, length, drop, Ok, Err, codes, Result}
+use Rattle.judge.specs.Text.{refusal_text}
 use Rattle.records.specs.Fault.{fault_text}
 use Rattle.line.specs.declared.verdict.LineRefusal.{LineRefusal}
 use Rattle.line.specs.declared.verdict.LineRefusal.TheVariants.{BufferTooShort}
@@ -22,7 +22,7 @@ without_line OutOfMemory = codes "out of memory"
 abbrev pub text_of : Verdict → List ℕ
 text_of Accept = codes "ACCEPT"
 text_of (Form f) = codes "FORM " ++ fault_text f
-text_of (Refuse f) = codes "REFUSE " ++ (decimal (table_ground_number f.reason) ++ (codes " row " ++ (decimal f.case.row ++ (codes " rule " ++ (decimal f.case.rule ++ (codes " case " ++ (decimal f.case.number ++ (codes " entry " ++ decimal f.entry))))))))
+text_of (Refuse f) = codes "REFUSE " ++ refusal_text f
 
 -- The line: the verdict and a line feed.
 abbrev pub line_of : Verdict → List ℕ

@@ -70,17 +70,7 @@ impl fmt::Display for Verdict {
         match self {
             Verdict::Accept => write!(f, "ACCEPT"),
             Verdict::Form(fault) => write!(f, "FORM {fault}"),
-            Verdict::Refuse(refusal) => {
-                let ground = refusal.reason.number();
-                let row = refusal.case.row;
-                let rule = refusal.case.rule;
-                let case = refusal.case.number;
-                let entry = refusal.entry;
-                write!(
-                    f,
-                    "REFUSE {ground} row {row} rule {rule} case {case} entry {entry}"
-                )
-            }
+            Verdict::Refuse(refusal) => write!(f, "REFUSE {refusal}"),
         }
     }
 }

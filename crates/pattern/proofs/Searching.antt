@@ -1,5 +1,5 @@
 -- What `all` decides over a list, and over the numbers below another.
-use Rattle.std.proofs.Common.{◌≡◌, ℕ, ◌+◌, ◌<◌, Bool, true, false, List, length, get_or, Decides, MatchBool, refl, subst, arith}
+use Rattle.std.proofs.Common.{◌≡◌, ℕ, ◌<◌, Bool, true, false, List, length, get_or, Decides, MatchBool, refl, arith}
 use Rattle.std.specs.List.{AllWithin, HoldsAt, range_with_len}
 use Rattle.std.proofs.lemmas.List.FromFn.{length-range_with_len, get_or-range_with_len}
 
@@ -12,7 +12,9 @@ all_below P n r w = (λ e i h. at i h (decided.0 e i (rw (length-range_with_len 
   where
     decided : Decides r ((i : ℕ) → i < length (range_with_len 0 n) → P (get_or (range_with_len 0 n) i 0))
     decided = all_in_list P (range_with_len 0 n) 0 r w
+
     at : (i : ℕ) → i < n → P (get_or (range_with_len 0 n) i 0) → P i
     at i h p = let e : get_or (range_with_len 0 n) i 0 ≡ i = omega (arith, get_or-range_with_len 0 n i 0 h) in rw e at p
+
     back : (i : ℕ) → i < n → P i → P (get_or (range_with_len 0 n) i 0)
     back i h p = let e : get_or (range_with_len 0 n) i 0 ≡ i = omega (arith, get_or-range_with_len 0 n i 0 h) in rw e p

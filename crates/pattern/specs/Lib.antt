@@ -3,3 +3,4 @@ pub mod Meaning
 pub mod Duty
 pub mod Run
 pub mod Call
+pub mod Text

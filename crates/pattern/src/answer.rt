@@ -1,5 +1,8 @@
-ghost use Rattle.std.specs.Prelude.{◌≡◌};
+ghost use Rattle.std.specs.Prelude.{◌≡◌, Some};
 ghost use Rattle.pattern.specs.Number.{fire_refusal_number, look_refusal_number};
+ghost use Rattle.pattern.specs.Text.{case_text};
+
+use std::fmt;
 
 /// One case of a rule and a row, by its number: one way in which the rule can lead into the row.
 #[derive(Clone, Copy, PartialEq, Eq, Debug)]
@@ -7,6 +10,18 @@ pub struct Case {
     pub row: usize,
     pub rule: usize,
     pub number: usize,
+}
+
+impl fmt::Display for Case {
+    ghost output = { λ case. Some (case_text case) };
+
+    fn fmt<W: fmt::Write>(&self, f: &mut fmt::Formatter<W>) -> fmt::Result {
+        write!(
+            f,
+            "row {} rule {} case {}",
+            self.row, self.rule, self.number
+        )
+    }
 }
 
 /// What a case asks of a dossier.

@@ -14,14 +14,14 @@ pub const MAX_CASES: usize = 16_777_216;
 pub fn rules_allowed(rules: usize) -> bool
     ensures { Decides result (RulesAllowed rules) }
 {
-    1 <= rules && rules <= MAX_RULES
+    (1..=MAX_RULES).contains(&rules)
 }
 
 /// Whether a pattern kind may have so many rows.
 pub fn rows_allowed(rows: usize) -> bool
     ensures { Decides result (RowsAllowed rows) }
 {
-    1 <= rows && rows <= MAX_ROWS
+    (1..=MAX_ROWS).contains(&rows)
 }
 
 /// Whether one row and one rule may have so many cases.

@@ -1,31 +1,20 @@
 // Judges the dossier on standard input, and prints the line of its verdict.
 #![tactic(auto)]
 
-use anyhow::anyhow;
 use dossier::{MIN_BUFFER, report};
-use line::NoLine;
 use std::io;
 use std::io::{Read, Write};
 
 /// One byte more than a file may have, so that a longer one is seen to be too long.
 const MOST_READ: u64 = 65_536;
 
-fn main(rt: HostRuntime) -> anyhow::Result<()> {
-    run(&rt)
-}
-
 /// Reads, judges and prints. Where a read fails or there is no memory, nothing is printed.
-fn run(rt: &HostRuntime) -> anyhow::Result<()> {
-    let bytes = read_input(rt)?;
+fn main(rt: HostRuntime) -> anyhow::Result<()> {
+    let bytes = read_input(&rt)?;
     let mut buffer = [0; MIN_BUFFER];
-    match report(rt.alloc(), &bytes, &mut buffer) {
-        Ok(length) => {
-            rt.stdout().write_all(&buffer[0..length])?;
-            Ok(())
-        }
-        Err(NoLine::Refused(_)) => Err(anyhow!("the buffer is too short")),
-        Err(NoLine::OutOfMemory) => Err(anyhow!("out of memory")),
-    }
+    let length = report(rt.alloc(), &bytes, &mut buffer)?;
+    rt.stdout().write_all(&buffer[..length])?;
+    Ok(())
 }
 
 /// Standard input, up to one byte more than a file may have.

@@ -6,7 +6,7 @@ use Rattle.drafting.specs.Drafted.{draft_book_of, layers_of, progress_of}
 use Rattle.reader.specs.Dossier.{dossier_of}
 use Rattle.dossier.specs.Meaning.{FileBook, book_meaning, kind_book}
 use Rattle.dossier.proofs.Piling.{observers_in}
-use Rattle.dossier.proofs.Lawful.{law_of, guarded_by, fault_law, accepted_law, refused_law}
+use Rattle.dossier.proofs.Lawful.{law_of, fault_law, accepted_law, refused_law}
 use Rattle.dossier.proofs.opening.open.Goals as goal
 
 pub returns-in_err-book : goal.returns-in_err-book
@@ -24,29 +24,25 @@ build-requires c =
     let r = c.in_ok-book.ensures.ranged in
     record { in_range = r.book_in; observers = observers_in (draft_book_of d.book) (layers_of d.layers) r.book_in r.few_layers r.layers_in }
 
-pub invariant_of-result : goal.invariant_of-result
-invariant_of-result c =
-    let o = c.in-Ok.ensures.opens in
-    record { valid = ∣ o.0 ∣₁; guarded = guarded_by c.in-Ok.model (kind_book c.in_ok-kind.kind) o.1 c.in-Ok.ensures.guarded }
-
-pub returns-in-Ok : goal.returns-in-Ok
-returns-in-Ok c =
+pub returns-in_err-new : goal.returns-in_err-new
+returns-in_err-new c =
     let d = c.in_ok-book.field-0 in
     let e = c.in_ok-book.ensures in
-    let n = c.in-Ok.ensures in
-    let b = c.in_ok-kind.ensures.1 in
+    let n = c.in_err-new.ensures in
+    let refusal = c.in_err-new.field-0.0.refusal in
+    let p = err_from_is_err_and c.from_residual-in_err-new.result c.from_residual-in_err-new.ensures.1 in
     record {
-      law = accepted_law c.args.bytes.now e.alone (progress_of d) e.reads (law_of (dossier_of (progress_of d)) (kind_book c.in_ok-kind.kind) (claims c.deref.result.now) (Ok tt) b (ap claims c.deref.ensures.value) n.law);
-      opens = (dossier_of (progress_of d), (progress_of d, e.reads, refl), n.opens.1 ∙ b, n.opens.2 ∙ ap (λ (x : FileBook). (book_meaning x).opening) b);
+      law = rw (p.1, p.2) (refused_law c.args.bytes.now e.alone (progress_of d) e.reads refusal (law_of (dossier_of (progress_of d)) (kind_book c.in_ok-kind.kind) (claims c.deref.result.now) (Err refusal) c.in_ok-kind.ensures (ap claims c.deref.ensures.value) n.law));
+      opens = rw p.1 tt;
     }
 
 pub returns : goal.returns
 returns c =
     let d = c.in_ok-book.field-0 in
     let e = c.in_ok-book.ensures in
-    let n = c.in-Err.ensures in
-    let b = c.in_ok-kind.ensures.1 in
+    let n = c.in_ok-new.ensures in
+    let b = c.in_ok-kind.ensures in
     record {
-      law = refused_law c.args.bytes.now e.alone (progress_of d) e.reads c.in-Err.rejected.refusal (law_of (dossier_of (progress_of d)) (kind_book c.in_ok-kind.kind) (claims c.deref.result.now) (Err c.in-Err.rejected.refusal) b (ap claims c.deref.ensures.value) n.law);
-      opens = tt;
+      law = accepted_law c.args.bytes.now e.alone (progress_of d) e.reads (law_of (dossier_of (progress_of d)) (kind_book c.in_ok-kind.kind) (claims c.deref.result.now) (Ok tt) b (ap claims c.deref.ensures.value) n.law);
+      opens = (dossier_of (progress_of d), (progress_of d, e.reads, refl), n.opens.0 ∙ b, n.opens.1 ∙ ap (λ (x : FileBook). (book_meaning x).opening) b);
     }

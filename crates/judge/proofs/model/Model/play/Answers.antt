@@ -28,7 +28,6 @@ returns g c =
     let inv = c.loop-call.invariant in
     record {
       same = inv.0;
-
       answers = omega (arith, inv.1);
       played = played_all (k.meaning (k.book c.args.self.now.kind)) c.args.calls.now (vec_items c.loop-call.answers) c.loop-call.call-index (k.state c.args.self.now.kind) (k.state c.loop-call.self.kind) (omega arith) inv.3;
       no_fault = never_seen (k.meaning (k.book c.args.self.now.kind)) c.args.self.now.guarded (played_all (k.meaning (k.book c.args.self.now.kind)) c.args.calls.now (vec_items c.loop-call.answers) c.loop-call.call-index (k.state c.args.self.now.kind) (k.state c.loop-call.self.kind) (omega arith) inv.3);
