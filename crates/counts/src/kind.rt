@@ -106,16 +106,13 @@ impl PatternKind for Counts {
     }
 
     fn stands_in_opening(&self, row: usize) -> bool {
-        match self.net.row(row) {
-            Some(row) => row.stands_in(&self.net.opening),
-            None => false,
-        }
+        self.net
+            .row(row)
+            .is_some_and(|row| row.stands_in(&self.net.opening))
     }
 
     fn fire(&mut self, rule: usize, choice: &[u8]) -> Result<(), FireRefusal> {
-        let Some(rule) = self.net.rule(rule) else {
-            return Err(FireRefusal::NoSuchRule);
-        };
+        let rule = self.net.rule(rule).ok_or(FireRefusal::NoSuchRule)?;
         if !choice.is_empty() {
             return Err(FireRefusal::ChoiceNotHeld);
         }
@@ -123,10 +120,8 @@ impl PatternKind for Counts {
     }
 
     fn look(&self, row: usize) -> Result<bool, LookRefusal> {
-        match self.net.row(row) {
-            Some(row) => Ok(row.stands_in(&self.marking)),
-            None => Err(LookRefusal::NoSuchRow),
-        }
+        let row = self.net.row(row).ok_or(LookRefusal::NoSuchRow)?;
+        Ok(row.stands_in(&self.marking))
     }
 
     fn restart(&mut self) {

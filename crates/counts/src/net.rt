@@ -66,7 +66,7 @@ impl Net {
         ensures { MatchResult result (λ _. InRange (book_of self.now)) (λ e. RefusedBy (book_of self.now) e × (e ≢ OutOfMemory)) }
     {
         let places = self.opening.len();
-        if places == 0 || places > MAX_PLACES {
+        if !(1..=MAX_PLACES).contains(&places) {
             return Err(NetRefusal::Places);
         }
         if !rules_allowed(self.rule_count()) {
@@ -126,24 +126,14 @@ impl Net {
     fn rules_fit(&self, places: usize) -> bool
         ensures { Decides result ((rule : ℕ) → rule < length (book_of self.now).rules → RuleFits places (rule_at (book_of self.now) rule)) }
     {
-        for rule in self.rules.iter() {
-            if !rule.fits(places) {
-                return false;
-            }
-        }
-        true
+        self.rules.iter().all(|rule| rule.fits(places))
     }
 
     /// Whether each row has a number for each of so many places.
     fn rows_fit(&self, places: usize) -> bool
         ensures { Decides result ((row : ℕ) → row < length (book_of self.now).rows → RowFits places (row_at (book_of self.now) row)) }
     {
-        for row in self.rows.iter() {
-            if !row.fits(places) {
-                return false;
-            }
-        }
-        true
+        self.rows.iter().all(|row| row.fits(places))
     }
 }
 
@@ -151,10 +141,7 @@ impl Net {
 fn at<T: Copy>(numbers: &[T], place: usize, none: T) -> T
     ensures { result ≡ slice_index_or numbers.now place none }
 {
-    match numbers.get(place) {
-        Some(number) => *number,
-        None => none,
-    }
+    numbers.get(place).copied().unwrap_or(none)
 }
 
 impl Row {
@@ -169,12 +156,10 @@ impl Row {
     pub(crate) fn stands_in(&self, marking: &[u16]) -> bool
         ensures { Decides result (tally self.now.least.items ⊑ tally marking.now) }
     {
-        for (place, least) in self.least.iter().enumerate() {
-            if at(marking, place, 0) < *least {
-                return false;
-            }
-        }
-        true
+        self.least
+            .iter()
+            .enumerate()
+            .all(|(place, least)| at(marking, place, 0) >= *least)
     }
 }
 
@@ -197,8 +182,7 @@ impl Rule {
 
     /// Fires the rule in the marking, or refuses and leaves it.
     pub(crate) fn fire(&self, marking: &mut [u16]) -> Result<(), FireRefusal>
-        requires takes_in { length self.now.takes.items ≤ length marking.old }
-        requires gives_in { length self.now.gives.items ≤ length marking.old }
+        requires { length self.now.gives.items ≤ length marking.old }
         ensures checked { Checked (tally self.now.takes.items) (tally self.now.gives.items) (tally marking.old) result }
         ensures moved { OnOk result (tally marking.new ≡ after (tally self.now.takes.items) (tally self.now.gives.items) (tally marking.old)) }
         ensures stays { OnErr result (marking.new ≡ marking.old) }
@@ -210,24 +194,37 @@ impl Rule {
 
     /// Whether the rule can fire in the marking, and to a marking that the model holds.
     fn check(&self, marking: &[u16]) -> Result<(), FireRefusal>
-        requires takes_in { length self.now.takes.items ≤ length marking.now }
-        requires gives_in { length self.now.gives.items ≤ length marking.now }
+        requires { length self.now.gives.items ≤ length marking.now }
         ensures { Checked (tally self.now.takes.items) (tally self.now.gives.items) (tally marking.now) result }
     {
-        let mut held = true;
-        for (place, count) in marking.iter().enumerate() {
-            if *count < u16::from(at(&self.takes, place, 0)) {
-                return Err(FireRefusal::ConditionNotMet);
-            }
-            if self.leaves(place, *count) > MAX_HELD {
-                held = false;
-            }
+        if !self.is_met(marking) {
+            return Err(FireRefusal::ConditionNotMet);
         }
-        if held {
-            Ok(())
-        } else {
-            Err(FireRefusal::BeyondModel)
+        if !self.stays_held(marking) {
+            return Err(FireRefusal::BeyondModel);
         }
+        Ok(())
+    }
+
+    /// Whether the marking has at each place what the rule takes.
+    fn is_met(&self, marking: &[u16]) -> bool
+        ensures { Decides result (tally self.now.takes.items ⊑ tally marking.now) }
+    {
+        self.takes
+            .iter()
+            .enumerate()
+            .all(|(place, take)| at(marking, place, 0) >= u16::from(*take))
+    }
+
+    /// Whether the model holds what the rule makes of the marking.
+    fn stays_held(&self, marking: &[u16]) -> bool
+        requires { length self.now.gives.items ≤ length marking.now }
+        ensures { Decides result (Held (after (tally self.now.takes.items) (tally self.now.gives.items) (tally marking.now))) }
+    {
+        marking
+            .iter()
+            .enumerate()
+            .all(|(place, count)| self.leaves(place, *count) <= MAX_HELD)
     }
 
     /// Fires the rule in the marking, where `check` says that it can.
@@ -254,11 +251,7 @@ impl Rule {
     pub(crate) fn covers(&self, row: &Row, named: &Row) -> bool
         ensures { Decides result (tally named.now.least.items ⊑ earlier (tally self.now.takes.items) (tally self.now.gives.items) (tally row.now.least.items)) }
     {
-        for (place, least) in named.least.iter().enumerate() {
-            if self.earlier(row, place) < u32::from(*least) {
-                return false;
-            }
-        }
-        true
+        named.least.iter().enumerate().all(|(place, least)| self.earlier(row, place)
+            >= u32::from(*least))
     }
 }

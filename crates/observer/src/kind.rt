@@ -103,10 +103,7 @@ impl<K: PatternKind> PatternKind for Observer<K> {
     }
 
     fn matching_length(&self, row: usize) -> usize {
-        match self.row(row) {
-            Some(row) => self.below.matching_length(row.below),
-            None => 0,
-        }
+        self.row(row).map_or(0, |row| self.below.matching_length(row.below))
     }
 
     fn covering(&self, case: Case, named: usize, matching: &[u8]) -> Covering {
@@ -120,10 +117,9 @@ impl<K: PatternKind> PatternKind for Observer<K> {
     }
 
     fn stands_in_opening(&self, row: usize) -> bool {
-        match self.row(row) {
-            Some(row) => row.mode == Mode::Zero && self.below.stands_in_opening(row.below),
-            None => false,
-        }
+        self.row(row).is_some_and(|row| {
+            row.mode == Mode::Zero && self.below.stands_in_opening(row.below)
+        })
     }
 
     fn fire(&mut self, rule: usize, choice: &[u8]) -> Result<(), FireRefusal> {
@@ -133,9 +129,7 @@ impl<K: PatternKind> PatternKind for Observer<K> {
     }
 
     fn look(&self, row: usize) -> Result<bool, LookRefusal> {
-        let Some(row) = self.row(row) else {
-            return Err(LookRefusal::NoSuchRow);
-        };
+        let row = self.row(row).ok_or(LookRefusal::NoSuchRow)?;
         Ok(row.mode == self.mode && self.below.look(row.below)?)
     }
 

@@ -28,8 +28,5 @@ fn observe<K: PatternKind + Drop>(kind: K, layer: Layer) -> Result<Observer<K>, 
     ensures { ObservedBy kind (layer_of layer) result }
 {
     let Layer { moves, rows } = layer;
-    match Observer::over(kind, moves, rows) {
-        Ok(observer) => Ok(observer),
-        Err(not) => Err(not.refusal),
-    }
+    Observer::over(kind, moves, rows).map_err(|not| not.refusal)
 }

@@ -7,13 +7,13 @@ use Rattle.counts.proofs.kind.CountsPatternKind.fire.Goals as goal
 
 pub returns : goal.returns
 returns c =
-    let found = c.in-Some.ensures in
+    let found = rw c.in_ok-rule.ensures.ok_part at c.rule.ensures in
     let marking = c.args.self.now.marking in
     let left = c.fire.new.marking in
     let long : length left ≡ vec_len marking = omega arith in
     record {
       same = refl;
       fired = rw (with_items_is marking left long)
-          (marking_fired (book_of c.args.self.now.net) c.args.rule c.args.choice.now (transition_of c.in-Some.rule.now) found.0 (eqb-true _ 0 (sym c.is_empty.ensures ∙ c.if-not-is_empty.false)) found.1
+          (marking_fired (book_of c.args.self.now.net) c.args.rule c.args.choice.now (transition_of c.in_ok-rule.rule.now) found.0 (eqb-true _ 0 (sym c.is_empty.ensures ∙ c.if-not-is_empty.false)) found.1
           (vec_items marking) c.deref_mut.result.now left c.fire.result c.deref_mut.ensures.value c.fire.ensures.checked c.fire.ensures.moved c.fire.ensures.stays);
     }

@@ -1,26 +1,14 @@
-use Rattle.std.proofs.Common.{[], vec_items, refl}
-use Rattle.std.proofs.lemmas.Bool.{false≢true}
-use Rattle.std.proofs.lemmas.Bool.Decides.{not_from_Decides}
+use Rattle.std.proofs.Common.{rules, [], vec_items}
+use Rattle.std.proofs.lemmas.Iterator.{cases_from_all, YieldsList-from_slice}
+use borrow.Author.Tests.{tests}
 use Rattle.counts.specs.Data.{transition_of}
 use Rattle.counts.specs.Range.{RuleFits}
-use Rattle.counts.proofs.Reading.{each_more, each_all, each_not}
+use Rattle.counts.specs.declared.net.Rule.{Rule}
+use Rattle.counts.proofs.Reading.{all_mapped}
 use Rattle.counts.proofs.net.Net.rules_fit.Goals as goal
 
-pub loop-rule-preserved : goal.loop-rule-preserved
-loop-rule-preserved c =
-    each_more transition_of (RuleFits c.args.places) (record { takes = []; gives = [] }) c.deref-rule-items.result.now (vec_items c.args.self.now.rules) c.deref-rule-items.ensures.value
-    c.loop-rule.rule-index c.rule-item.result c.loop-rule-test.true c.rule-item.is c.loop-rule.invariant (c.fits.ensures.0 c.if-not-fits.false)
-
-pub returns-then-not-fits : goal.returns-then-not-fits
-returns-then-not-fits c = (
-  λ e. absurd (false≢true e),
-  λ all. absurd (each_not transition_of (RuleFits c.args.places) (record { takes = []; gives = [] }) c.deref-rule-items.result.now (vec_items c.args.self.now.rules) c.deref-rule-items.ensures.value
-      c.loop-rule.rule-index c.rule-item.result c.loop-rule-test.true c.rule-item.is (not_from_Decides c.fits.result c.fits.ensures c.if-not-fits.true) all),
-)
-
 pub returns : goal.returns
-returns c = (
-  λ _. each_all transition_of (RuleFits c.args.places) (record { takes = []; gives = [] }) c.deref-rule-items.result.now (vec_items c.args.self.now.rules) c.deref-rule-items.ensures.value
-      c.loop-rule.rule-index c.loop-rule-test.false c.loop-rule.invariant,
-  λ _. refl,
-)
+returns c =
+    let Fits : Rule → Type 0 = λ x. RuleFits c.args.places (transition_of x) in
+    all_mapped transition_of (RuleFits c.args.places) (record { takes = []; gives = [] }) (vec_items c.args.self.now.rules) c.all.result
+    (cases_from_all _ _ _ Fits (λ x. Fits x → ⊥) c.all.ensures.ran (YieldsList-from_slice (vec_items c.args.self.now.rules) cc) (λ x q w. search (rules, tests)) (λ x q w. search (rules, tests)))
