@@ -7,6 +7,7 @@ ghost use Rattle.counts.specs.Range.{RuleFits, RowFits, InRange, RefusedBy};
 
 use pattern::{Case, FireRefusal, rows_allowed, rules_allowed};
 use std::alloc::AllocError;
+use thiserror::Error;
 
 /// The most places of a counted book.
 pub const MAX_PLACES: usize = 12;
@@ -36,19 +37,19 @@ pub struct Net {
 }
 
 /// Why a net is no counted book. Of several grounds the first listed counts.
-#[derive(Clone, Copy, PartialEq, Eq, Debug)]
+#[derive(Clone, Copy, PartialEq, Eq, Debug, Error)]
 pub enum NetRefusal {
-    /// There are not 1 to 12 places.
+    #[error("there are not 1 to 12 places")]
     Places,
-    /// There are not 1 to 32 rules.
+    #[error("there are not 1 to 32 rules")]
     Rules,
-    /// There are not 1 to 64 rows.
+    #[error("there are not 1 to 64 rows")]
     Rows,
-    /// A rule does not take and give at each place.
+    #[error("a rule does not take and give at each place")]
     RuleLength,
-    /// A row has not a number for each place.
+    #[error("a row has not a number for each place")]
     RowLength,
-    /// There is no memory for the marking.
+    #[error("there is no memory for the marking")]
     OutOfMemory,
 }
 

@@ -54,19 +54,17 @@ fn a_full_place_takes_no_more(rt: HostRuntime) -> Result<(), Fail> {
     assert_eq!(rt; book.fire(1, &[]), Ok(()));
     assert_eq!(rt; book.fire(1, &[0]), Err(FireRefusal::ChoiceNotHeld));
     assert_eq!(rt; book.fire(2, &[]), Err(FireRefusal::NoSuchRule));
-    assert_eq!(rt; FireRefusal::BeyondModel.number(), 25);
+    assert_eq!(rt; u8::from(FireRefusal::BeyondModel), 25);
     Ok(())
 }
 
 /// The judge's answer on a table of entries that name these rows, with empty matchings.
 fn judged(heap: Global, book: &Counts, rows: &[usize]) -> Result<Result<(), TableRefusal>, Fail> {
-    let mut table = Vec::new(heap);
-    for row in rows {
-        table.push(Entry {
-            row: *row,
-            matching: Vec::new(heap),
-        })?;
-    }
+    let entries = rows.iter().map(|row| Entry {
+        row: *row,
+        matching: Vec::new(heap),
+    });
+    let table: Vec<Entry> = entries.collect(heap)?;
     Ok(judge(book, &table))
 }
 

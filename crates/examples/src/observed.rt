@@ -1,7 +1,4 @@
 // Observers, run: over a counted book, and over an observer of it.
-ghost use Rattle.std.specs.Prelude.{IfOk};
-ghost use Rattle.observer.specs.Kind.{valid_of};
-
 use counts::{Counts, Net, Row, Rule};
 use judge::{Entry, Model};
 use observer::{Mode, Observer, ObserverRefusal, ObserverRow};
@@ -37,10 +34,7 @@ fn lamp(heap: Global) -> Result<Counts, Fail> {
 
 /// An observer whose mode says which rule fired last: 0 none, 1 rule 0, 2 rule 1; it never
 /// comes to mode 3. Its row stands in one mode.
-fn watch<K: PatternKind + Drop>(heap: Global, below: K, row: Mode) -> Result<Observer<K>, Fail>
-    requires { K.valid below }
-    ensures { IfOk result (valid_of K.valid K.meaning K.book) }
-{
+fn watch<K: PatternKind + Drop>(heap: Global, below: K, row: Mode) -> Result<Observer<K>, Fail> {
     let mut moves = [Mode::One, Mode::One, Mode::One, Mode::Three].to_vec(heap)?;
     moves.extend_from_slice(&[Mode::Two, Mode::Two, Mode::Two, Mode::Three])?;
     let rows = vec![in heap;
@@ -49,10 +43,7 @@ fn watch<K: PatternKind + Drop>(heap: Global, below: K, row: Mode) -> Result<Obs
             mode: row
         },
     ]?;
-    match Observer::over(below, moves, rows) {
-        Ok(observed) => Ok(observed),
-        Err(_) => Err(Fail::new("in range")),
-    }
+    Ok(Observer::over(below, moves, rows).map_err(|not| not.refusal)?)
 }
 
 #[test]

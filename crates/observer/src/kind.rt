@@ -103,7 +103,8 @@ impl<K: PatternKind> PatternKind for Observer<K> {
     }
 
     fn matching_length(&self, row: usize) -> usize {
-        self.row(row).map_or(0, |row| self.below.matching_length(row.below))
+        self.row(row)
+            .map_or(0, |row| self.below.matching_length(row.below))
     }
 
     fn covering(&self, case: Case, named: usize, matching: &[u8]) -> Covering {

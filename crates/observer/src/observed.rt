@@ -2,6 +2,7 @@ ghost use Rattle.observer.specs.Observed.{MovesFit, RowsIn, RowsBelow, CasesFit}
 
 use crate::mode::{Mode, ObserverRow};
 use pattern::PatternKind;
+use thiserror::Error;
 
 /// A pattern kind with an observer: a mode that moves at each firing, by the rule and the mode.
 #[derive(Drop)]
@@ -17,15 +18,15 @@ pub struct Observer<K: PatternKind> {
 }
 
 /// Why a table of moves and rows is no observer of a kind. Of several grounds the first listed counts.
-#[derive(Clone, Copy, PartialEq, Eq, Debug)]
+#[derive(Clone, Copy, PartialEq, Eq, Debug, Error)]
 pub enum ObserverRefusal {
-    /// The table has not four modes for each rule.
+    #[error("the table has not four modes for each rule")]
     Moves,
-    /// There are not 1 to 64 rows.
+    #[error("there are not 1 to 64 rows")]
     Rows,
-    /// A row names no row below.
+    #[error("a row names no row below")]
     RowBelow,
-    /// Four times the cases of some rule and row below are more than a kind may have.
+    #[error("four times the cases of some rule and row below are more than a kind may have")]
     Cases,
 }
 

@@ -8,22 +8,19 @@ mod show;
 
 use judge::{Call, Entry, Model, Rejected};
 use pattern::PatternKind;
+use show::Exchange;
 
 fn main(rt: HostRuntime) -> anyhow::Result<()> {
-    tour(&rt)
-}
-
-fn tour(rt: &HostRuntime) -> anyhow::Result<()> {
     let heap = rt.alloc();
     rt.println("One pump, one token, any number of customers. Fault: two hold the pump.")?;
     judge_and_play(
-        rt,
+        &rt,
         pump::book(heap)?,
         &pump::wrong_table(heap)?,
         &pump::calls(heap)?,
     )?;
     judge_and_play(
-        rt,
+        &rt,
         pump::book(heap)?,
         &pump::table(heap)?,
         &pump::calls(heap)?,
@@ -31,14 +28,14 @@ fn tour(rt: &HostRuntime) -> anyhow::Result<()> {
     rt.println("The same, observed. Fault: held twice in a row without a release.")?;
     let free_for_all = order::held_twice(heap, [0, 0, 1])?;
     judge_and_play(
-        rt,
+        &rt,
         free_for_all,
         &order::held_twice_table(heap)?,
         &pump::calls(heap)?,
     )?;
     let with_token = order::held_twice(heap, pump::TOKEN_AND_WAITING)?;
     judge_and_play(
-        rt,
+        &rt,
         with_token,
         &order::held_twice_table(heap)?,
         &pump::calls(heap)?,
@@ -46,7 +43,7 @@ fn tour(rt: &HostRuntime) -> anyhow::Result<()> {
     rt.println("The same, observed twice. Fault: somebody held the pump and nobody came.")?;
     let twice = order::held_before_any_came(heap)?;
     judge_and_play(
-        rt,
+        &rt,
         twice,
         &order::held_before_any_came_table(heap)?,
         &pump::calls(heap)?,
@@ -59,9 +56,7 @@ fn judge_and_play<K: PatternKind + Drop>(
     kind: K,
     table: &[Entry],
     calls: &[Call],
-) -> anyhow::Result<()>
-    requires { K.valid kind }
-{
+) -> anyhow::Result<()> {
     match Model::new(kind, table) {
         Ok(model) => {
             let rows = model.kind().rows();
@@ -70,7 +65,10 @@ fn judge_and_play<K: PatternKind + Drop>(
             println!(rt; "ACCEPT: {rows} rows, {rules} rules, {entries} open cases, each covered")?;
             play(rt, model, calls)
         }
-        Err(Rejected { kind: _, refusal }) => show::show_refusal(rt, &refusal),
+        Err(Rejected { kind: _, refusal }) => {
+            println!(rt; "REFUSE {refusal}")?;
+            Ok(())
+        }
     }
 }
 
@@ -78,12 +76,11 @@ fn play<K: PatternKind + Drop>(
     rt: &HostRuntime,
     mut model: Model<K>,
     calls: &[Call],
-) -> anyhow::Result<()>
-    requires { K.valid model.kind }
-{
+) -> anyhow::Result<()> {
     let answers = model.play(rt.alloc(), calls)?;
     for (call, answer) in calls.iter().zip(answers.iter()) {
-        show::show_exchange(rt, call, answer)?;
+        let exchange = Exchange { call, answer };
+        println!(rt; "{exchange}")?;
     }
     Ok(())
 }

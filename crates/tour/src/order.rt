@@ -1,13 +1,8 @@
 // Faults that are an order of firings, by observers over the pump's book.
-ghost use Rattle.std.specs.Prelude.{IfOk};
-ghost use Rattle.tour.specs.Kinds.{ObservedOnce, ObservedTwice};
-
 use crate::pump::{TOKEN_AND_WAITING, book_with, entry, row};
-use anyhow::anyhow;
 use counts::Counts;
 use judge::Entry;
 use observer::{Mode, Observer, ObserverRow};
-use pattern::PatternKind;
 use std::alloc::Global;
 
 /// A move of each mode to itself.
@@ -28,30 +23,21 @@ fn moves(
 
 /// The rows of an observer: each a row below and a mode.
 fn pairs(heap: Global, rows: &[(usize, Mode)]) -> anyhow::Result<Vec<ObserverRow>> {
-    let mut pairs = Vec::new(heap);
-    for (below, mode) in rows {
-        pairs.push(ObserverRow {
-            below: *below,
-            mode: *mode,
-        })?;
-    }
-    Ok(pairs)
+    let pairs = rows.iter().map(|(below, mode)| ObserverRow {
+        below: *below,
+        mode: *mode,
+    });
+    Ok(pairs.collect(heap)?)
 }
 
 /// Entries that name these rows.
 fn entries(heap: Global, rows: &[usize]) -> anyhow::Result<Vec<Entry>> {
-    let mut entries = Vec::new(heap);
-    for row in rows {
-        entries.push(entry(heap, *row))?;
-    }
-    Ok(entries)
+    Ok(rows.iter().map(|row| entry(heap, *row)).collect(heap)?)
 }
 
 /// Modes: 0 not held since the last release, 1 held once, 2 held twice in a row.
 /// Row 0, the fault: mode 2. The others are the ways that would lead there.
-pub fn held_twice(heap: Global, to_hold: [u8; 3]) -> anyhow::Result<Observer<Counts>>
-    ensures { IfOk result ObservedOnce }
-{
+pub fn held_twice(heap: Global, to_hold: [u8; 3]) -> anyhow::Result<Observer<Counts>> {
     let rows = vec![in heap;
         row(heap, [0, 0, 0])?,
         row(heap, [1, 0, 0])?,
@@ -71,10 +57,7 @@ pub fn held_twice(heap: Global, to_hold: [u8; 3]) -> anyhow::Result<Observer<Cou
         (4, Mode::Zero),
         (4, Mode::One),
     ];
-    match Observer::over(below, moves, pairs(heap, &rows)?) {
-        Ok(observed) => Ok(observed),
-        Err(_) => Err(anyhow!("the moves or rows are out of range")),
-    }
+    Ok(Observer::over(below, moves, pairs(heap, &rows)?).map_err(|not| not.refusal)?)
 }
 
 /// The entries of the open cases of `held_twice`, in walk order.
@@ -84,28 +67,16 @@ pub fn held_twice_table(heap: Global) -> anyhow::Result<Vec<Entry>> {
 
 /// Two observers: the lower has seen somebody hold the pump, the upper has seen somebody come.
 /// Row 0, the fault: somebody held it and nobody came.
-pub fn held_before_any_came(heap: Global) -> anyhow::Result<Observer<Observer<Counts>>>
-    ensures { IfOk result ObservedTwice }
-{
+pub fn held_before_any_came(heap: Global) -> anyhow::Result<Observer<Observer<Counts>>> {
     let rows = vec![in heap; row(heap, [0, 0, 0])?, row(heap, [0, 0, 1])?]?;
     let below = book_with(heap, TOKEN_AND_WAITING, rows)?;
     let seen = [Mode::One, Mode::One, Mode::Two, Mode::Three];
-    let lower = match Observer::over(
-        below,
-        moves(heap, STAYS, seen, STAYS)?,
-        pairs(heap, &[(0, Mode::One), (1, Mode::Zero)])?,
-    ) {
-        Ok(observed) => observed,
-        Err(_) => return Err(anyhow!("the lower moves or rows are out of range")),
-    };
-    match Observer::over(
-        lower,
-        moves(heap, seen, STAYS, STAYS)?,
-        pairs(heap, &[(0, Mode::Zero), (1, Mode::Zero)])?,
-    ) {
-        Ok(observed) => Ok(observed),
-        Err(_) => Err(anyhow!("the upper moves or rows are out of range")),
-    }
+    let moved = moves(heap, STAYS, seen, STAYS)?;
+    let rows = pairs(heap, &[(0, Mode::One), (1, Mode::Zero)])?;
+    let lower = Observer::over(below, moved, rows).map_err(|not| not.refusal)?;
+    let moved = moves(heap, seen, STAYS, STAYS)?;
+    let rows = pairs(heap, &[(0, Mode::Zero), (1, Mode::Zero)])?;
+    Ok(Observer::over(lower, moved, rows).map_err(|not| not.refusal)?)
 }
 
 /// The entries of the open cases of `held_before_any_came`.

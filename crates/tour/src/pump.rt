@@ -1,6 +1,5 @@
 // The book of one pump: places 0 token, 1 holding, 2 waiting.
-use anyhow::anyhow;
-use counts::{Counts, Net, NetRefusal, Row, Rule};
+use counts::{Counts, Net, Row, Rule};
 use judge::{Call, Entry};
 use std::alloc::{AllocError, Global};
 
@@ -30,18 +29,12 @@ fn rules(heap: Global, to_hold: [u8; 3]) -> Result<Vec<Rule>, AllocError> {
 pub fn book_with(heap: Global, to_hold: [u8; 3], rows: Vec<Row>) -> anyhow::Result<Counts> {
     let rules = rules(heap, to_hold)?;
     let opening = [1, 0, 0].to_vec(heap)?;
-    match Counts::new(
-        heap,
-        Net {
-            opening,
-            rules,
-            rows,
-        },
-    ) {
-        Ok(counts) => Ok(counts),
-        Err(NetRefusal::OutOfMemory) => Err(AllocError.into()),
-        Err(_) => Err(anyhow!("the pump's book is out of range")),
-    }
+    let net = Net {
+        opening,
+        rules,
+        rows,
+    };
+    Ok(Counts::new(heap, net)?)
 }
 
 /// What a customer takes to hold the pump: the token, and a place among those who wait.

@@ -1,43 +1,33 @@
-// How calls, answers and refusals are printed.
-use judge::{Call, TableRefusal};
+// How a call and its answer are printed.
+use judge::Call;
 use pattern::Answer;
+use std::fmt;
 
-pub fn show_refusal(rt: &HostRuntime, refusal: &TableRefusal) -> anyhow::Result<()> {
-    let number = refusal.reason.number();
-    let entry = refusal.entry;
-    let row = refusal.case.row;
-    let rule = refusal.case.rule;
-    let case = refusal.case.number;
-    println!(rt; "REFUSE {number} row {row} rule {rule} case {case} entry {entry}")?;
-    Ok(())
+/// A call with what it answered.
+#[derive(Clone, Copy)]
+pub struct Exchange<'a> {
+    pub call: &'a Call,
+    pub answer: &'a Answer,
 }
 
-pub fn show_exchange(rt: &HostRuntime, call: &Call, answer: &Answer) -> anyhow::Result<()> {
-    match call {
-        Call::Fire { rule, choice } => {
-            let chosen = choice.len();
-            print!(rt; "fire rule {rule} with {chosen} chosen: ")?;
+impl fmt::Display for Exchange<'_> {
+    fn fmt<W: fmt::Write>(&self, f: &mut fmt::Formatter<W>) -> fmt::Result {
+        match self.call {
+            Call::Fire { rule, choice } => write!(
+                f,
+                "fire rule {rule} with {} chosen: ",
+                choice.len()
+            )?,
+            Call::Look { row } => write!(f, "look at row {row}: ")?,
+            Call::Restart => write!(f, "restart: ")?,
         }
-        Call::Look { row } => print!(rt; "look at row {row}: ")?,
-        Call::Restart => print!(rt; "restart: ")?,
+        match self.answer {
+            Answer::Fired(Ok(())) => write!(f, "fired"),
+            Answer::Fired(Err(refusal)) => write!(f, "refused {}", u8::from(*refusal)),
+            Answer::Looked(Ok(true)) => write!(f, "it stands"),
+            Answer::Looked(Ok(false)) => write!(f, "it does not stand"),
+            Answer::Looked(Err(refusal)) => write!(f, "refused {}", u8::from(*refusal)),
+            Answer::Restarted => write!(f, "in the opening state"),
+        }
     }
-    show_answer(rt, answer)
-}
-
-fn show_answer(rt: &HostRuntime, answer: &Answer) -> anyhow::Result<()> {
-    match answer {
-        Answer::Fired(Ok(())) => rt.println("fired")?,
-        Answer::Fired(Err(refusal)) => {
-            let number = refusal.number();
-            println!(rt; "refused {number}")?;
-        }
-        Answer::Looked(Ok(true)) => rt.println("it stands")?,
-        Answer::Looked(Ok(false)) => rt.println("it does not stand")?,
-        Answer::Looked(Err(refusal)) => {
-            let number = refusal.number();
-            println!(rt; "refused {number}")?;
-        }
-        Answer::Restarted => rt.println("in the opening state")?,
-    }
-    Ok(())
 }
