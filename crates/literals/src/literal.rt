@@ -85,19 +85,6 @@ impl Fact {
         ensures { result ≡ implies self other }
     {
         match (self, other) {
-            (Fact::Unary { relation: a, x }, Fact::Unary { relation: b, x: y }) => a == b && x == y,
-            (
-                Fact::Binary {
-                    relation: a,
-                    x,
-                    y: w,
-                },
-                Fact::Binary {
-                    relation: b,
-                    x: y,
-                    y: z,
-                },
-            ) => a == b && (x == y && w == z),
             (Fact::Binary { relation: a, x, .. }, Fact::From { relation: b, x: y }) => a == b
                 && x == y,
             (
@@ -108,9 +95,7 @@ impl Fact {
                 },
                 Fact::Into { relation: b, x: y },
             ) => a == b && w == y,
-            (Fact::From { relation: a, x }, Fact::From { relation: b, x: y }) => a == b && x == y,
-            (Fact::Into { relation: a, x }, Fact::Into { relation: b, x: y }) => a == b && x == y,
-            _ => false,
+            _ => self == other,
         }
     }
 
@@ -156,8 +141,8 @@ impl Literal {
         ensures { result ≡ denial self }
     {
         Literal {
-            fact: self.fact,
             affirmed: !self.affirmed,
+            ..self
         }
     }
 
@@ -195,10 +180,7 @@ impl Literal {
                 x: name(names, x),
             },
         };
-        Literal {
-            fact,
-            affirmed: self.affirmed,
-        }
+        Literal { fact, ..self }
     }
 }
 
