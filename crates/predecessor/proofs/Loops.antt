@@ -8,21 +8,9 @@ use Rattle.predecessor.specs.Proper.{digits, proper}
 pub written_more : {Y : Type 0} (done left rest total : List Y) (y : Y) → done ++ left ≡ total → left ≡ y ∷ rest → (done ++ y ∷ []) ++ rest ≡ total
 written_more done left rest total y e is = append_assoc done (y ∷ []) rest ∙ ap (λ ys. done ++ ys) (sym is) ∙ e
 
-module _ (base number : ℕ) (xs : List ℕ) (i rest : ℕ) (so_far : digits base (length xs) number ≡ take i xs ++ digits base (length xs - i) rest) where
-  -- what is left to write, one digit on
-  next_digit : i < length xs → digits base (length xs - i) rest ≡ rest % base ∷ digits base (length xs - (i + 1)) (rest / base)
-  next_digit h = let one : length xs - i ≡ suc (length xs - (i + 1)) = omega arith in ap (λ (k : ℕ). digits base k rest) one
-
-  pub digits_more : i < length xs → digits base (length (set xs i (rest % base))) number ≡ take (i + 1) (set xs i (rest % base)) ++ digits base (length (set xs i (rest % base)) - (i + 1)) (rest / base)
-  digits_more h =
-      rw (length-set xs i (rest % base))
-      (sym (written_more (take i xs) (digits base (length xs - i) rest) (digits base (length xs - (i + 1)) (rest / base)) (digits base (length xs) number) (rest % base) (sym so_far) (next_digit h))
-      ∙ ap (λ ds. ds ++ digits base (length xs - (i + 1)) (rest / base)) (sym (take_more_set xs i (rest % base) h)))
-
-  pub digits_all : length xs ≤ i → xs ≡ digits base (length xs) number
-  digits_all h =
-      let none : length xs - i ≡ 0 = omega arith in
-      sym (so_far ∙ ap (λ (k : ℕ). take i xs ++ digits base k rest) none ∙ append-nil (take i xs) ∙ take_all i xs h)
+-- What is left to write, one digit on.
+pub next_digit : (base k i rest : ℕ) → i < k → digits base (k - i) rest ≡ rest % base ∷ digits base (k - (i + 1)) (rest / base)
+next_digit base k i rest h = let one : k - i ≡ suc (k - (i + 1)) = omega arith in ap (λ (j : ℕ). digits base j rest) one
 
 module _ (first : ℕ) (names : List ℕ) (i next : ℕ) (h : i < length names) (left : proper next (drop i names) ≡ proper first names) where
   here : proper first names ≡ (leb (get_or names i 0) next && proper (cond (eqb (get_or names i 0) next) (suc next) next) (drop (i + 1) names))

@@ -1,6 +1,6 @@
-ghost use Rattle.std.specs.Prelude.{◌≡◌, MatchOption};
+ghost use Rattle.std.specs.Prelude.{◌≡◌, ◌<◌, length, MatchOption};
 ghost use Rattle.literals.specs.State.{State};
-ghost use Rattle.atoms.specs.Book.{AtomsBook};
+ghost use Rattle.atoms.specs.Book.{AtomsBook, rule_at, row_at};
 ghost use Rattle.atoms.specs.Data.{transition_of, pattern_of, book_of};
 ghost use Rattle.predecessor.specs.Kind.{Exists, earlier_of, atoms_meaning};
 ghost use Rattle.predecessor.specs.Exact.{ExactOf};
@@ -9,10 +9,10 @@ ghost use Rattle.predecessor.specs.System.{Found, system_book, system_state, sys
 ghost use Rattle.atoms.proofs.Ranged.{in_range};
 ghost use Rattle.predecessor.specs.Duty.{atoms_duties};
 
-use crate::case::{case_count, covering, earlier, sort};
+use crate::case::RuleIntoRow;
 use crate::earlier::Earlier;
 use crate::system::AtomSystem;
-use atoms::{Atoms, Book, BookRefusal, Row, Rule};
+use atoms::{Atoms, Book, BookRefusal};
 use pattern::{Case, Covering, FireRefusal, LookRefusal, PatternKind, Sort};
 
 impl AtomSystem {
@@ -30,18 +30,25 @@ impl AtomSystem {
         ensures value { MatchOption result (Exists (system_book self.now) case → ⊥) (λ e. Exists (system_book self.now) case × (literals_of e ≡ (earlier_of (system_book self.now) case).literals)) }
         ensures exact { ExactOf (system_book self.now) case }
     {
-        let (rule, row) = self.case(case)?;
-        Some(earlier(rule, row, case.number))
+        Some(self.case(case)?.earlier(case.number))
+    }
+
+    /// The rule and the row with these numbers.
+    fn rule_into_row(&self, rule: usize, row: usize) -> Option<RuleIntoRow<'_>>
+        ensures { MatchOption result ((rule < length (system_book self.now).rules × row < length (system_book self.now).rows) → ⊥) (λ x. (rule < length (system_book self.now).rules) × (row < length (system_book self.now).rows) × (transition_of x.rule.now ≡ rule_at (system_book self.now) rule) × (pattern_of x.row.now ≡ row_at (system_book self.now) row)) }
+    {
+        let rule = self.atoms.rule(rule)?;
+        let row = self.atoms.row(row)?;
+        Some(RuleIntoRow { rule, row })
     }
 
     /// The rule and the row of a case, where there is such a case.
-    fn case(&self, case: Case) -> Option<(&Rule, &Row)>
-        ensures { MatchOption result (Exists (system_book self.now) case → ⊥) (λ x. Found (system_book self.now) case (transition_of x.0.now) (pattern_of x.1.now)) }
+    fn case(&self, case: Case) -> Option<RuleIntoRow<'_>>
+        ensures { MatchOption result (Exists (system_book self.now) case → ⊥) (λ x. Found (system_book self.now) case (transition_of x.rule.now) (pattern_of x.row.now)) }
     {
-        let rule = self.atoms.rule(case.rule)?;
-        let row = self.atoms.row(case.row)?;
-        if case.number < case_count(rule, row) {
-            Some((rule, row))
+        let pair = self.rule_into_row(case.rule, case.row)?;
+        if case.number < pair.case_count() {
+            Some(pair)
         } else {
             None
         }
@@ -72,17 +79,17 @@ impl PatternKind for AtomSystem {
     }
 
     fn cases(&self, row: usize, rule: usize) -> usize {
-        let (Some(row), Some(rule)) = (self.atoms.row(row), self.atoms.rule(rule)) else {
-            return 0;
-        };
-        case_count(rule, row)
+        match self.rule_into_row(rule, row) {
+            Some(pair) => pair.case_count(),
+            None => 0,
+        }
     }
 
     fn sort(&self, case: Case) -> Sort {
-        let Some((rule, row)) = self.case(case) else {
-            return Sort::Idle;
-        };
-        sort(rule, row, case.number)
+        match self.case(case) {
+            Some(pair) => pair.sort(case.number),
+            None => Sort::Idle,
+        }
     }
 
     fn matching_length(&self, row: usize) -> usize {
@@ -93,10 +100,10 @@ impl PatternKind for AtomSystem {
     }
 
     fn covering(&self, case: Case, named: usize, matching: &[u8]) -> Covering {
-        let (Some((rule, row)), Some(named)) = (self.case(case), self.atoms.row(named)) else {
-            return Covering::Malformed;
-        };
-        covering(rule, row, case.number, named, matching)
+        match (self.case(case), self.atoms.row(named)) {
+            (Some(pair), Some(named)) => pair.covering(case.number, named, matching),
+            _ => Covering::Malformed,
+        }
     }
 
     fn stands_in_opening(&self, row: usize) -> bool {

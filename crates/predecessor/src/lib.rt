@@ -9,7 +9,6 @@ pub mod kind;
 pub mod matching;
 pub mod naming;
 pub mod system;
-pub mod writing;
 
 pub use earlier::Earlier;
 pub use system::AtomSystem;
