@@ -1,7 +1,7 @@
-ghost use Rattle.std.specs.Prelude.{◌≡◌, MatchOption, ◌≢◌, slice_index};
+ghost use Rattle.std.specs.Prelude.{◌≡◌, slice_index};
 ghost use Rattle.literals.specs.State.{under, last_variable};
 ghost use Rattle.literals.specs.Follow.{implies, yields, denial};
-ghost use Rattle.literals.specs.Number.{literal_kind_number, kind_of};
+ghost use Rattle.literals.specs.Number.{literal_kind_number, KindNumbered, kind_of};
 
 /// The kinds of literals, by their numbers in a file.
 #[derive(Clone, Copy, PartialEq, Eq, Debug)]
@@ -24,29 +24,35 @@ pub enum LiteralKind {
     NotInto = 7,
 }
 
-impl LiteralKind {
-    /// The kind with this number.
-    pub fn new(number: u8) -> Option<LiteralKind>
-        ensures { MatchOption result ((k : LiteralKind) → literal_kind_number k ≢ number) (λ k. literal_kind_number k ≡ number) }
-    {
+/// A number that no kind of literals has.
+#[derive(Clone, Copy, PartialEq, Eq, Debug)]
+pub struct NoSuchKind(pub u8);
+
+impl TryFrom<u8> for LiteralKind {
+    type Error = NoSuchKind;
+
+    ghost try_from_gives = { KindNumbered };
+
+    fn try_from(number: u8) -> Result<Self, NoSuchKind> {
         match number {
-            0 => Some(LiteralKind::Unary),
-            1 => Some(LiteralKind::NotUnary),
-            2 => Some(LiteralKind::Binary),
-            3 => Some(LiteralKind::NotBinary),
-            4 => Some(LiteralKind::From),
-            5 => Some(LiteralKind::NotFrom),
-            6 => Some(LiteralKind::Into),
-            7 => Some(LiteralKind::NotInto),
-            _ => None,
+            0 => Ok(LiteralKind::Unary),
+            1 => Ok(LiteralKind::NotUnary),
+            2 => Ok(LiteralKind::Binary),
+            3 => Ok(LiteralKind::NotBinary),
+            4 => Ok(LiteralKind::From),
+            5 => Ok(LiteralKind::NotFrom),
+            6 => Ok(LiteralKind::Into),
+            7 => Ok(LiteralKind::NotInto),
+            _ => Err(NoSuchKind(number)),
         }
     }
+}
 
-    /// The number of the kind in a file.
-    pub fn number(self) -> u8
-        ensures { result ≡ literal_kind_number self }
-    {
-        self as u8
+impl From<LiteralKind> for u8 {
+    ghost from_gives = { λ kind number. number ≡ literal_kind_number kind };
+
+    fn from(kind: LiteralKind) -> u8 {
+        kind as u8
     }
 }
 
@@ -110,6 +116,7 @@ impl Fact {
 }
 
 /// A fact that is affirmed, or denied.
+// The sign is a `bool`, since it is the answer to a question: what holds is `has(fact) == affirmed`.
 #[derive(Clone, Copy, PartialEq, Eq, Debug)]
 pub struct Literal {
     pub fact: Fact,
@@ -118,6 +125,7 @@ pub struct Literal {
 
 impl Literal {
     /// The kind of the literal.
+    // A method, and no `From`, since the kind alone does not give the literal back.
     pub fn kind(self) -> LiteralKind
         ensures { result ≡ kind_of self }
     {
@@ -188,8 +196,5 @@ impl Literal {
 fn name(names: &[u8], variable: u8) -> u8
     ensures { result ≡ slice_index names.now variable }
 {
-    match names.get(variable as usize) {
-        Some(name) => *name,
-        None => 0,
-    }
+    names.get(usize::from(variable)).copied().unwrap_or(0)
 }
