@@ -1,4 +1,5 @@
 ghost use Rattle.std.specs.Prelude.{◌≡◌, slice_index};
+ghost use Rattle.literals.specs.declared.literal.Fact.TheVariants.{Unary};
 ghost use Rattle.literals.specs.State.{under, last_variable};
 ghost use Rattle.literals.specs.Follow.{implies, yields, denial};
 ghost use Rattle.literals.specs.Number.{literal_kind_number, KindNumbered, kind_of};
@@ -69,6 +70,15 @@ pub enum Fact {
     Into { relation: u8, x: u8 },
 }
 
+impl Default for Fact {
+    ghost is_default = { λ f. f ≡ Unary 0 0 };
+
+    // By hand, since a derive needs a variant without fields.
+    fn default() -> Self {
+        Fact::Unary { relation: 0, x: 0 }
+    }
+}
+
 impl Fact {
     /// Whether the fact implies another: each implies itself, and b(x, y) that there is one from x and one into y.
     pub fn implies(self, other: Fact) -> bool
@@ -117,7 +127,7 @@ impl Fact {
 
 /// A fact that is affirmed, or denied.
 // The sign is a `bool`, since it is the answer to a question: what holds is `has(fact) == affirmed`.
-#[derive(Clone, Copy, PartialEq, Eq, Debug)]
+#[derive(Clone, Copy, PartialEq, Eq, Debug, Default)]
 pub struct Literal {
     pub fact: Fact,
     pub affirmed: bool,
