@@ -1,12 +1,12 @@
 -- Going on from an earlier state: where the effect settles every literal of the row, the rule leads into it.
 use Rattle.std.proofs.Common.{◌≡◌, ℕ, true, false, not, ◌||◌, List, [], map, sym, refl, ap, ◌∙◌, subst, inl, inr, arith}
-use Rattle.std.specs.List.{AllByRecursion}
+use Rattle.std.specs.List.{AllByRecursion, list_any}
 use Rattle.std.proofs.lemmas.Bool.{not-true, not_from_false, or_cases, or_parts, or_from, and_right, both_ways, cases_Bool}
 use Rattle.std.proofs.lemmas.List.{map-append, length-map}
 use Rattle.std.proofs.ByRecursion.{All-map, All-get_or}
 use Rattle.literals.specs.declared.Literal.{Literal}
 use Rattle.literals.specs.State.{State, Holds, AllHold, under, chosen}
-use Rattle.literals.specs.Follow.{denial, any, contradictory}
+use Rattle.literals.specs.Follow.{denial, contradictory}
 use Rattle.literals.proofs.Listing.{each_passes, each_fails, all_from_both, all_unmapped, all_parts, all_unfiltered}
 use Rattle.literals.proofs.Renaming.{follows_kept}
 use Rattle.pattern.specs.declared.Case.{Case}
@@ -27,7 +27,7 @@ module _ (rule : Transition) (row : Pattern) (n : ℕ) (rule_in : RuleIn rule) (
   effect = effect_in_case rule row n
 
   -- what a case that is not idle is not
-  named : (contradictory effect || any (made_false effect) row.literals) ≡ false
+  named : (contradictory effect || list_any (made_false effect) row.literals) ≡ false
   named = (or_parts (not (proper row.variables (renaming rule row n))) _ (or_parts (ruled_out rule row (renaming rule row n)) (contradictory (earlier rule row n).literals) busy).0).1
 
   fair : contradictory effect ≡ false

@@ -1,11 +1,11 @@
 ghost use Rattle.std.specs.Prelude.{◌≡◌, ◌<◌, length, MatchOption};
 ghost use Rattle.literals.specs.State.{State};
-ghost use Rattle.atoms.specs.Book.{AtomsBook, rule_at, row_at};
-ghost use Rattle.atoms.specs.Data.{transition_of, pattern_of, book_of};
+ghost use Rattle.atoms.specs.Book.{AtomsBook};
+ghost use Rattle.atoms.specs.Data.{book_of};
 ghost use Rattle.predecessor.specs.Kind.{Exists, earlier_of, atoms_meaning};
 ghost use Rattle.predecessor.specs.Exact.{ExactOf};
 ghost use Rattle.predecessor.specs.Made.{literals_of};
-ghost use Rattle.predecessor.specs.System.{Found, system_book, system_state, system_valid, MadeSystem};
+ghost use Rattle.predecessor.specs.System.{ReadAt, Found, system_book, system_state, system_valid, MadeSystem};
 ghost use Rattle.atoms.proofs.Ranged.{in_range};
 ghost use Rattle.predecessor.specs.Duty.{atoms_duties};
 
@@ -35,7 +35,7 @@ impl AtomSystem {
 
     /// The rule and the row with these numbers.
     fn rule_into_row(&self, rule: usize, row: usize) -> Option<RuleIntoRow<'_>>
-        ensures { MatchOption result ((rule < length (system_book self.now).rules × row < length (system_book self.now).rows) → ⊥) (λ x. (rule < length (system_book self.now).rules) × (row < length (system_book self.now).rows) × (transition_of x.rule.now ≡ rule_at (system_book self.now) rule) × (pattern_of x.row.now ≡ row_at (system_book self.now) row)) }
+        ensures { MatchOption result (rule < length (system_book self.now).rules × row < length (system_book self.now).rows → ⊥) (ReadAt (system_book self.now) rule row) }
     {
         let rule = self.atoms.rule(rule)?;
         let row = self.atoms.row(row)?;
@@ -44,14 +44,10 @@ impl AtomSystem {
 
     /// The rule and the row of a case, where there is such a case.
     fn case(&self, case: Case) -> Option<RuleIntoRow<'_>>
-        ensures { MatchOption result (Exists (system_book self.now) case → ⊥) (λ x. Found (system_book self.now) case (transition_of x.rule.now) (pattern_of x.row.now)) }
+        ensures { MatchOption result (Exists (system_book self.now) case → ⊥) (Found (system_book self.now) case) }
     {
-        let pair = self.rule_into_row(case.rule, case.row)?;
-        if case.number < pair.case_count() {
-            Some(pair)
-        } else {
-            None
-        }
+        self.rule_into_row(case.rule, case.row)
+            .filter(|pair| case.number < pair.case_count())
     }
 }
 
@@ -79,24 +75,19 @@ impl PatternKind for AtomSystem {
     }
 
     fn cases(&self, row: usize, rule: usize) -> usize {
-        match self.rule_into_row(rule, row) {
-            Some(pair) => pair.case_count(),
-            None => 0,
-        }
+        self.rule_into_row(rule, row)
+            .map_or(0, |pair| pair.case_count())
     }
 
     fn sort(&self, case: Case) -> Sort {
-        match self.case(case) {
-            Some(pair) => pair.sort(case.number),
-            None => Sort::Idle,
-        }
+        self.case(case)
+            .map_or(Sort::Idle, |pair| pair.sort(case.number))
     }
 
     fn matching_length(&self, row: usize) -> usize {
-        match self.atoms.row(row) {
-            Some(row) => row.variables as usize,
-            None => 0,
-        }
+        self.atoms
+            .row(row)
+            .map_or(0, |row| usize::from(row.variables))
     }
 
     fn covering(&self, case: Case, named: usize, matching: &[u8]) -> Covering {
