@@ -1,6 +1,5 @@
 -- Going through a list and writing another: the steps of the loops.
-use Rattle.std.proofs.Common.{◌≡◌, ℕ, suc, ◌+◌, ◌-◌, ◌/◌, ◌%◌, ◌<◌, ◌≤◌, Bool, false, cond, ◌&&◌, eqb, leb, List, [], ◌∷◌, ◌++◌, length, get_or, take, drop, filter, sym, ap, ◌∙◌, add-one, arith}
-use Rattle.std.proofs.lemmas.Bool.{cond-true, cond-false, eq-eqb, ne_eqb, le-leb, lt-leb, and_left}
+use Rattle.std.proofs.Common.{◌≡◌, ℕ, suc, ◌+◌, ◌-◌, ◌/◌, ◌%◌, ◌<◌, ◌≤◌, Bool, cond, ◌&&◌, eqb, leb, List, [], ◌∷◌, ◌++◌, length, get_or, take, drop, filter, sym, ap, ◌∙◌, arith}
 use Rattle.std.proofs.lemmas.List.{length-append, length-map, length-take, append_assoc, at_drop_more}
 use Rattle.literals.specs.declared.Literal.{Literal}
 use Rattle.literals.specs.State.{under, chosen}
@@ -19,21 +18,9 @@ written_more done left rest total y e is = append_assoc done (y ∷ []) rest ∙
 pub next_digit : (base k i rest : ℕ) → i < k → digits base (k - i) rest ≡ rest % base ∷ digits base (k - (i + 1)) (rest / base)
 next_digit base k i rest h = let one : k - i ≡ suc (k - (i + 1)) = omega arith in ap (λ (j : ℕ). digits base j rest) one
 
-module _ (first : ℕ) (names : List ℕ) (i next : ℕ) (h : i < length names) (left : proper next (drop i names) ≡ proper first names) where
-  here : proper first names ≡ (leb (get_or names i 0) next && proper (cond (eqb (get_or names i 0) next) (suc next) next) (drop (i + 1) names))
-  here = sym left ∙ at_drop_more (proper next) names i 0 h
-
-  pub proper_failed : next < get_or names i 0 → false ≡ proper first names
-  proper_failed k = sym (here ∙ and_left _ _ (lt-leb (get_or names i 0) next k))
-
-  at_most : get_or names i 0 ≤ next → proper first names ≡ proper (cond (eqb (get_or names i 0) next) (suc next) next) (drop (i + 1) names)
-  at_most k = here ∙ ap (λ (t : Bool). t && proper (cond (eqb (get_or names i 0) next) (suc next) next) (drop (i + 1) names)) (le-leb (get_or names i 0) next k)
-
-  pub proper_new : get_or names i 0 ≡ next → proper (next + 1) (drop (i + 1) names) ≡ proper first names
-  proper_new e = ap (λ (n : ℕ). proper n (drop (i + 1) names)) (add-one next ∙ sym (cond-true {A = ℕ} (eqb (get_or names i 0) next) (suc next) next (eq-eqb _ _ e))) ∙ sym (at_most (omega arith))
-
-  pub proper_old : get_or names i 0 ≤ next → (get_or names i 0 ≡ next → ⊥) → proper next (drop (i + 1) names) ≡ proper first names
-  proper_old k e = ap (λ (n : ℕ). proper n (drop (i + 1) names)) (sym (cond-false {A = ℕ} (eqb (get_or names i 0) next) (suc next) next (ne_eqb _ _ e))) ∙ sym (at_most k)
+-- One name more is looked at.
+pub proper_step : (next : ℕ) (names : List ℕ) (i : ℕ) → i < length names → proper next (drop i names) ≡ (leb (get_or names i 0) next && proper (cond (eqb (get_or names i 0) next) (suc next) next) (drop (i + 1) names))
+proper_step next names i h = at_drop_more (proper next) names i 0 h
 
 length-filter-le : {X : Type 0} (p : X → Bool) (xs : List X) → length (filter p xs) ≤ length xs
 length-filter-le p xs = rw (length-filter p xs) (count_by-le-length p xs)

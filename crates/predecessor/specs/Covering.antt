@@ -1,5 +1,5 @@
 -- Where literals cover a row, the row stands where they hold.
-use Rattle.std.specs.Prelude.{◌≡◌, ℕ, zero, suc, ◌<◌, ◌≤◌, true, false, not, ◌&&◌, ltb, List, [], ◌∷◌, map, length, ◌==◌, nat_eq, nat_lt, slice_index, refl}
+use Rattle.std.specs.Prelude.{◌≡◌, ℕ, zero, suc, ◌<◌, ◌≤◌, true, false, not, ◌&&◌, ltb, List, [], ◌∷◌, map, length, ◌==◌, nat_eq, nat_lt, slice_index, ◌≢◌, refl}
 use Rattle.std.proofs.Common.{sym, ap, subst, arith}
 use Rattle.std.specs.List.{AllByRecursion, list_any, list_all}
 use Rattle.std.proofs.lemmas.Bool.{and_parts, or_parts, not-true, eqb-true, eqb-false, ltb-true}
@@ -38,10 +38,13 @@ module _ (ls : List Literal) (place : ℕ → ℕ) (s : State) (held : AllHold s
           all_hold = subst (AllHold s) (map_under_again place (λ x. slice_index matching x) row.literals) (following (map (under (λ x. slice_index matching x)) row.literals) e);
         }
       where
-        -- a list that does not repeat has each element in one place
+        -- the first element of a list that does not repeat is in no other place, so that each is in one place
+        elsewhere : (x : ℕ) (xs : List ℕ) → repeats (x ∷ xs) ≡ false → (j : ℕ) → j < length xs → x ≢ slice_index xs j
+        elsewhere x xs f j h = eqb-false x (slice_index xs j) (All-get_or (λ y. (x == y) ≡ false) xs j 0 h (each_fails (nat_eq x) xs (or_parts (list_any (nat_eq x) xs) (repeats xs) f).0))
+
         apart : (xs : List ℕ) → repeats xs ≡ false → (i j : ℕ) → i < length xs → j < length xs → slice_index xs i ≡ slice_index xs j → i ≡ j
         apart [] f i j h k same = absurd (omega arith)
         apart (x ∷ xs) f zero zero h k same = refl
-        apart (x ∷ xs) f zero (suc j) h k same = absurd (eqb-false x (slice_index xs j) (All-get_or (λ y. (x == y) ≡ false) xs j 0 (omega arith) (each_fails (nat_eq x) xs (or_parts (list_any (nat_eq x) xs) (repeats xs) f).0)) same)
-        apart (x ∷ xs) f (suc i) zero h k same = absurd (eqb-false x (slice_index xs i) (All-get_or (λ y. (x == y) ≡ false) xs i 0 (omega arith) (each_fails (nat_eq x) xs (or_parts (list_any (nat_eq x) xs) (repeats xs) f).0)) (sym same))
+        apart (x ∷ xs) f zero (suc j) h k same = absurd (elsewhere x xs f j (omega arith) same)
+        apart (x ∷ xs) f (suc i) zero h k same = absurd (elsewhere x xs f i (omega arith) (sym same))
         apart (x ∷ xs) f (suc i) (suc j) h k same = ap suc (apart xs (or_parts (list_any (nat_eq x) xs) (repeats xs) f).1 i j (omega arith) (omega arith) same)

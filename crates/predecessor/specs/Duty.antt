@@ -4,6 +4,7 @@ use Rattle.std.proofs.Common.{sym, ap, subst, ◌∙◌, inl, inr, arith}
 use Rattle.std.proofs.lemmas.Bool.{and_parts, and_from, lt-ltb, ltb-true, both_ways, cond-true, cond_both, cases_eq, cases_Bool}
 use Rattle.std.proofs.ByRecursion.{All-get_or}
 use Rattle.std.proofs.lemmas.Bool.Decides.{Decides-and, Decides-ltb, Decides-like}
+use Rattle.std.proofs.lemmas.Grind.{common_steps}
 use Rattle.pattern.specs.declared.Case.{Case}
 use Rattle.pattern.specs.declared.FireRefusal.{FireRefusal}
 use Rattle.pattern.specs.declared.FireRefusal.TheVariants.{ChoiceNotHeld, ConditionNotMet, EffectContradictory}
@@ -64,22 +65,13 @@ module _ (r : Transition) (s : State) (choice : List ℕ) where
 
 -- the sorts and coverings, by their tests
 idle_test : (x y z : Bool) → cond x (cond y Idle (cond z Own Open)) Idle ≡ Idle → x ≡ true → y ≢ false
-idle_test true true z e h k = let n : ◌≡◌ {A = ℕ} 0 1 = cc in omega arith
-idle_test true false true e h k = let n : ◌≡◌ {A = ℕ} 0 1 = cc in omega arith
-idle_test true false false e h k = let n : ◌≡◌ {A = ℕ} 0 1 = cc in omega arith
-idle_test false y z e h k = let n : ◌≡◌ {A = ℕ} 0 1 = cc in omega arith
+idle_test x y z e h k = grind (arith, common_steps)
 
 own_test : (x y z : Bool) → cond x (cond y Idle (cond z Own Open)) Idle ≡ Own → z ≡ true
-own_test true true z e = absurd (let n : ◌≡◌ {A = ℕ} 0 1 = cc in omega arith)
-own_test true false true e = refl
-own_test true false false e = absurd (let n : ◌≡◌ {A = ℕ} 0 1 = cc in omega arith)
-own_test false y z e = absurd (let n : ◌≡◌ {A = ℕ} 0 1 = cc in omega arith)
+own_test x y z e = grind (arith, common_steps)
 
 covers_test : (x y z : Bool) → cond x (cond y (cond z Covers DoesNotCover) Malformed) Malformed ≡ Covers → (x ≡ true) × (y ≡ true) × (z ≡ true)
-covers_test true true true e = (refl, refl, refl)
-covers_test true true false e = absurd (let n : ◌≡◌ {A = ℕ} 0 1 = cc in omega arith)
-covers_test true false z e = absurd (let n : ◌≡◌ {A = ℕ} 0 1 = cc in omega arith)
-covers_test false y z e = absurd (let n : ◌≡◌ {A = ℕ} 0 1 = cc in omega arith)
+covers_test x y z e = grind (arith, common_steps)
 
 module _ (b : AtomsBook) where
   pub decides_exists : (c : Case) → Decides (exists b c) (Exists b c)

@@ -2,7 +2,9 @@
 use Rattle.std.specs.Prelude.{◌≡◌, ℕ, Bool, true, false, not, ◌&&◌, ◌||◌, ◌⊎◌, List, ◌==◌, ◌≢◌, refl}
 use Rattle.std.proofs.Common.{sym, inl, inr}
 use Rattle.std.specs.List.{AllByRecursion}
-use Rattle.std.proofs.lemmas.Bool.{and_parts, and_from, or_cases, or_left, or_right, not-true, not_from_false, both_ways, eqb-true, eq-eqb, false≢true}
+use Rattle.std.proofs.lemmas.Bool.{and_parts, and_from, or_cases, both_ways, eqb-true, eq-eqb, false≢true}
+use Rattle.std.proofs.lemmas.Grind.{common_steps}
+use Rattle.std.proofs.Common.{arith}
 use Rattle.literals.specs.declared.Fact.{Fact}
 use Rattle.literals.specs.declared.Fact.TheVariants.{Unary, Binary, From, Into}
 use Rattle.literals.specs.declared.Literal.{Literal}
@@ -20,16 +22,16 @@ lit f b = record { fact = f; affirmed = b }
 
 -- an atom that an effect leaves, by whether it was there and what the effect says of it
 left : (before gained lost : Bool) → before ≡ true → lost ≡ false → ((before || gained) && not lost) ≡ true
-left before gained lost h k = and_from (before || gained) (not lost) (or_left before gained h) (not_from_false lost k)
+left before gained lost h k = rw (h, k)
 
 come : (before gained lost : Bool) → gained ≡ true → lost ≡ false → ((before || gained) && not lost) ≡ true
-come before gained lost h k = and_from (before || gained) (not lost) (or_right before gained h) (not_from_false lost k)
+come before gained lost h k = grind (arith, common_steps)
 
 was : (before gained lost : Bool) → ((before || gained) && not lost) ≡ true → (before ≡ true) ⊎ (gained ≡ true)
 was before gained lost e = or_cases before gained (and_parts (before || gained) (not lost) e).0
 
 not_lost : (before gained lost : Bool) → ((before || gained) && not lost) ≡ true → lost ≢ true
-not_lost before gained lost e h = both_ways lost (not-true lost (and_parts (before || gained) (not lost) e).1) h
+not_lost before gained lost e h = grind (arith, common_steps)
 
 same : (a : ℕ) → (a == a) ≡ true
 same a = eq-eqb a a refl
@@ -44,22 +46,16 @@ module _ (b x z : ℕ) where
       × ((by_signs s false (implies g (Into b z)) (implies (Into b z) g) ≡ true) ⊎ ((not s && loosens g (Into b z)) ≡ true))
   one_gone g true e = absurd (false≢true e)
   one_gone (Unary c y) false e = absurd (false≢true e)
-  one_gone (Binary c y w) false e =
-      let p = and_parts (b == c) (x == y && z == w) e in
-      let q = and_parts (x == y) (z == w) p.1 in
-      (inr (and_from (c == b) (y == x) (turned b c p.0) (turned x y q.0)), inr (and_from (c == b) (w == z) (turned b c p.0) (turned z w q.1)))
-  one_gone (From c y) false e = (inl e, inr (turned b c (and_parts (b == c) (x == y) e).0))
-  one_gone (Into c y) false e = (inr (turned b c (and_parts (b == c) (z == y) e).0), inl e)
+  one_gone (Binary c y w) false e = (inr (grind (arith, common_steps)), inr (grind (arith, common_steps)))
+  one_gone (From c y) false e = (inl e, inr (grind (arith, common_steps)))
+  one_gone (Into c y) false e = (inr (grind (arith, common_steps)), inl e)
 
   -- an affirmed fact from which b(x, z) follows
   one_new : (g : Fact) (s : Bool) → by_signs s true (implies g (Binary b x z)) (implies (Binary b x z) g) ≡ true
       → (by_signs s true (implies g (From b x)) (implies (From b x) g) ≡ true) × (by_signs s true (implies g (Into b z)) (implies (Into b z) g) ≡ true)
   one_new g false e = absurd (false≢true e)
   one_new (Unary c y) true e = absurd (false≢true e)
-  one_new (Binary c y w) true e =
-      let p = and_parts (c == b) (y == x && w == z) e in
-      let q = and_parts (y == x) (w == z) p.1 in
-      (and_from (c == b) (y == x) p.0 q.0, and_from (c == b) (w == z) p.0 q.1)
+  one_new (Binary c y w) true e = grind (arith, common_steps)
   one_new (From c y) true e = absurd (false≢true e)
   one_new (Into c y) true e = absurd (false≢true e)
 
