@@ -1,8 +1,8 @@
 -- What an effect of objects makes of literals: what held before, what holds after.
-use Rattle.std.specs.Prelude.{◌≡◌, ℕ, Bool, true, false, not, ◌&&◌, ◌||◌, ◌⊎◌, List, ◌==◌, ◌≢◌, refl}
-use Rattle.std.proofs.Common.{sym, inl, inr}
+use Rattle.std.specs.Prelude.{◌≡◌, ℕ, Bool, true, false, not, ◌&&◌, ◌||◌, ◌⊎◌, List, ◌≢◌, refl}
+use Rattle.std.proofs.Common.{inl, inr}
 use Rattle.std.specs.List.{AllByRecursion}
-use Rattle.std.proofs.lemmas.Bool.{and_parts, and_from, or_cases, both_ways, eqb-true, eq-eqb, false≢true}
+use Rattle.std.proofs.lemmas.Bool.{false≢true}
 use Rattle.std.proofs.lemmas.Grind.{common_steps}
 use Rattle.std.proofs.Common.{arith}
 use Rattle.literals.specs.declared.Fact.{Fact}
@@ -20,24 +20,12 @@ use Rattle.predecessor.specs.Earlier.{loosens, thins, loosened, made_true, made_
 abbrev lit : Fact → Bool → Literal
 lit f b = record { fact = f; affirmed = b }
 
--- an atom that an effect leaves, by whether it was there and what the effect says of it
-left : (before gained lost : Bool) → before ≡ true → lost ≡ false → ((before || gained) && not lost) ≡ true
-left before gained lost h k = rw (h, k)
-
+-- an atom that an effect brings, or leaves, by whether it was there and what the effect says of it
 come : (before gained lost : Bool) → gained ≡ true → lost ≡ false → ((before || gained) && not lost) ≡ true
 come before gained lost h k = grind (arith, common_steps)
 
-was : (before gained lost : Bool) → ((before || gained) && not lost) ≡ true → (before ≡ true) ⊎ (gained ≡ true)
-was before gained lost e = or_cases before gained (and_parts (before || gained) (not lost) e).0
-
 not_lost : (before gained lost : Bool) → ((before || gained) && not lost) ≡ true → lost ≢ true
 not_lost before gained lost e h = grind (arith, common_steps)
-
-same : (a : ℕ) → (a == a) ≡ true
-same a = eq-eqb a a refl
-
-turned : (a b : ℕ) → (a == b) ≡ true → (b == a) ≡ true
-turned a b e = eq-eqb b a (sym (eqb-true a b e))
 
 module _ (b x z : ℕ) where
   -- a denial from which that of b(x, z) follows
@@ -77,10 +65,10 @@ module _ (b x z : ℕ) where
 module _ (effect : List Literal) (s : State) where
   -- what was there, of what is there after
   before : (g : Fact) (t : Bool) → remains effect g t ≡ true → follows effect (lit g true) ≡ false → t ≡ true
-  before g t e h = elim (was t (follows effect (lit g true)) (follows effect (lit g false)) e) [ inl w ↦ w | inr w ↦ absurd (both_ways (follows effect (lit g true)) h w) ]
+  before g t e h = grind (arith, common_steps)
 
   stays : (g : Fact) (t : Bool) → t ≡ true → follows effect (lit g false) ≡ false → remains effect g t ≡ true
-  stays g t e h = left t (follows effect (lit g true)) (follows effect (lit g false)) e h
+  stays g t e h = rw (e, h)
 
   -- a pair that was there stays, one that is there was there: by what the effect says of its first object, or of its second
   stays_from : (b x z : ℕ) → s.binary b x z ≡ true → follows effect (lit (From b x) false) ≡ false → thins effect (From b x) ≡ false → (after effect s).binary b x z ≡ true
@@ -125,14 +113,14 @@ module _ (effect : List Literal) (s : State) where
 
   -- what a literal of the effect that is not denied by it says of the state after
   brought : (f : Fact) (b : Bool) → (b ≡ true → Effective f) → ((l : Literal) → yields (lit f b) l ≡ true → follows effect l ≡ true) → follows effect (lit f (not b)) ≡ false → Said b (TrueIn (after effect s) f)
-  brought (Unary a x) true h c n = come (s.unary a x) _ _ (c (lit (Unary a x) true) (and_from (a == a) (x == x) (same a) (same x))) n
-  brought (Binary b x y) true h c n = come (s.binary b x y) _ _ (c (lit (Binary b x y) true) (and_from (b == b) (x == x && y == y) (same b) (and_from (x == x) (y == y) (same x) (same y)))) n
+  brought (Unary a x) true h c n = come (s.unary a x) _ _ (c (lit (Unary a x) true) (grind (arith, common_steps))) n
+  brought (Binary b x y) true h c n = come (s.binary b x y) _ _ (c (lit (Binary b x y) true) (grind (arith, common_steps))) n
   brought (From b x) true h c n = absurd (h refl)
   brought (Into b x) true h c n = absurd (h refl)
-  brought (Unary a x) false h c n = λ e. not_lost (s.unary a x) _ _ e (c (lit (Unary a x) false) (and_from (a == a) (x == x) (same a) (same x)))
-  brought (Binary b x y) false h c n = λ e. not_lost (s.binary b x y) _ _ e (c (lit (Binary b x y) false) (and_from (b == b) (x == x && y == y) (same b) (and_from (x == x) (y == y) (same x) (same y))))
-  brought (From b x) false h c n = λ e. not_lost (s.binary b x e.0) _ _ e.1 (c (lit (Binary b x e.0) false) (and_from (b == b) (x == x) (same b) (same x)))
-  brought (Into b x) false h c n = λ e. not_lost (s.binary b e.0 x) _ _ e.1 (c (lit (Binary b e.0 x) false) (and_from (b == b) (x == x) (same b) (same x)))
+  brought (Unary a x) false h c n = λ e. not_lost (s.unary a x) _ _ e (c (lit (Unary a x) false) (grind (arith, common_steps)))
+  brought (Binary b x y) false h c n = λ e. not_lost (s.binary b x y) _ _ e (c (lit (Binary b x y) false) (grind (arith, common_steps)))
+  brought (From b x) false h c n = λ e. not_lost (s.binary b x e.0) _ _ e.1 (c (lit (Binary b x e.0) false) (grind (arith, common_steps)))
+  brought (Into b x) false h c n = λ e. not_lost (s.binary b e.0 x) _ _ e.1 (c (lit (Binary b e.0 x) false) (grind (arith, common_steps)))
 
   module _ (effective : AllByRecursion EffectIn effect) (fair : contradictory effect ≡ false) where
     -- What a fair effect says holds after it.
