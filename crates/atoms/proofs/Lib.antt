@@ -1,7 +1,6 @@
 pub mod Setting
 pub mod Changing
 pub mod Opening
-pub mod Each
 pub mod Reading
 pub mod Ranged
 pub mod Steps

@@ -13,6 +13,10 @@ use Rattle.atoms.specs.Cells.{gains, gained}
 use Rattle.atoms.proofs.Setting.{same_state}
 use Rattle.atoms.proofs.Changing.{first_gained, gained_none}
 
+-- What is read of atoms past the end.
+abbrev pub no_atom : Atom
+no_atom = atom.Unary 0 0
+
 affirms : (x : Atom) → (affirmed x).affirmed ≡ true
 affirms (atom.Unary a d) = refl
 affirms (atom.Binary b d e) = refl

@@ -55,12 +55,9 @@ impl Row {
     fn literals_hold(&self, cells: &Cells, placed: &[u8], variable: u8) -> bool
         ensures { Decides result (AllByRecursion (MetAt (state_of cells.now) (at placed.now) variable) self.now.literals.items) }
     {
-        for literal in self.literals.iter() {
-            if literal.fact.last_variable() == variable && !cells.holds(literal.under(placed)) {
-                return false;
-            }
-        }
-        true
+        self.literals.iter().all(|literal| {
+            literal.fact.last_variable() != variable || cells.holds(literal.under(placed))
+        })
     }
 }
 

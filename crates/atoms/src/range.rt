@@ -65,24 +65,14 @@ impl Book {
     fn rules_in_range(&self) -> bool
         ensures { Decides result (AllByRecursion RuleIn (book_of self.now).rules) }
     {
-        for rule in self.rules.iter() {
-            if !rule.in_range() {
-                return false;
-            }
-        }
-        true
+        self.rules.iter().all(|rule| rule.in_range())
     }
 
     /// Whether every row is in range.
     fn rows_in_range(&self) -> bool
         ensures { Decides result (AllByRecursion RowIn (book_of self.now).rows) }
     {
-        for row in self.rows.iter() {
-            if !row.in_range() {
-                return false;
-            }
-        }
-        true
+        self.rows.iter().all(|row| row.in_range())
     }
 }
 
@@ -138,12 +128,7 @@ impl Atom {
 fn atoms_in_range(atoms: &[Atom]) -> bool
     ensures { Decides result (AllByRecursion AtomIn atoms.now) }
 {
-    for atom in atoms {
-        if !atom.in_range() {
-            return false;
-        }
-    }
-    true
+    atoms.iter().all(|atom| atom.in_range())
 }
 
 /// Whether a fact is one of a model's relations over so many variables.
@@ -161,12 +146,9 @@ fn fact_in_range(fact: Fact, variables: u8) -> bool
 fn literals_in_range(literals: &[Literal], variables: u8) -> bool
     ensures { Decides result (AllByRecursion (LiteralIn variables) literals.now) }
 {
-    for literal in literals {
-        if !fact_in_range(literal.fact, variables) {
-            return false;
-        }
-    }
-    true
+    literals
+        .iter()
+        .all(|literal| fact_in_range(literal.fact, variables))
 }
 
 /// Whether a literal can stand in an effect: it affirms an atom, or denies something.
@@ -183,10 +165,5 @@ fn is_effective(literal: Literal) -> bool
 fn are_effective(effect: &[Literal]) -> bool
     ensures { Decides result (AllByRecursion EffectIn effect.now) }
 {
-    for literal in effect {
-        if !is_effective(*literal) {
-            return false;
-        }
-    }
-    true
+    effect.iter().all(|literal| is_effective(*literal))
 }

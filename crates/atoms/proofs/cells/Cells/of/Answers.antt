@@ -3,7 +3,7 @@ use Rattle.std.proofs.ByRecursion.{All-get_or}
 use Rattle.atoms.specs.Book.{nothing, affirmed}
 use Rattle.atoms.specs.Range.{AtomIn}
 use Rattle.atoms.specs.Cells.{state_of, gained}
-use Rattle.atoms.proofs.Each.{no_atom}
+use Rattle.atoms.proofs.Opening.{no_atom}
 use Rattle.atoms.proofs.Opening.{add_more, add_end}
 use Rattle.atoms.proofs.cells.Cells.of.Goals as goal
 
