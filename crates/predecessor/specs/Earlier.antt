@@ -71,13 +71,20 @@ module _ (rule : Transition) (row : Pattern) where
   abbrev pub effect_in_case : ℕ → List Literal
   effect_in_case n = chosen (renaming n) rule.effect
 
-  -- The earlier pattern of a case.
-  abbrev pub earlier : ℕ → Pattern
-  earlier n = record { variables = case_variables; literals = literals_before (renaming n) }
+  -- The earlier pattern under a naming.
+  abbrev pub pattern_before : List ℕ → Pattern
+  pattern_before names = record { variables = case_variables; literals = literals_before names }
 
-  -- A case is idle if its naming is ruled out, or its earlier pattern is contradictory.
+  -- A naming is idle if it is ruled out, or its earlier pattern is contradictory.
+  abbrev pub idle_under : List ℕ → Bool
+  idle_under names = ruled_out names || contradictory (literals_before names)
+
+  -- The earlier pattern of a case, and whether the case is idle: those of its naming.
+  abbrev pub earlier : ℕ → Pattern
+  earlier n = pattern_before (renaming n)
+
   abbrev pub idle : ℕ → Bool
-  idle n = ruled_out (renaming n) || contradictory (earlier n).literals
+  idle n = idle_under (renaming n)
 
 -- A set of literals covers a row under a matching of its variables: each literal of the row follows from it.
 abbrev pub covers : List Literal → List ℕ → Pattern → Bool

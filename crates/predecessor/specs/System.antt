@@ -9,8 +9,10 @@ use Rattle.atoms.specs.Book.{AtomsBook, just, rule_at, row_at}
 use Rattle.atoms.specs.Range.{InRange, RefusedBy}
 use Rattle.atoms.specs.Data.{transition_of, pattern_of}
 use Rattle.atoms.specs.Model.{atoms_book, atoms_state}
+use Rattle.predecessor.specs.Earlier.{renaming}
 use Rattle.predecessor.specs.Kind.{Exists}
 use Rattle.predecessor.specs.declared.case.RuleIntoRow.{RuleIntoRow}
+use Rattle.predecessor.specs.declared.step.StepBack.{StepBack}
 use Rattle.predecessor.specs.declared.system.AtomSystem.{AtomSystem}
 
 abbrev pub system_book : AtomSystem → AtomsBook
@@ -42,8 +44,9 @@ pub record ReadAt (b : AtomsBook) (rule row : ℕ) (p : RuleIntoRow) : Type 0 wh
   pub rule_is : rule_of p ≡ rule_at b rule
   pub row_is : row_of p ≡ row_at b row
 
--- What is read for a case that there is: its rule and its row.
-pub record Found (b : AtomsBook) (c : Case) (p : RuleIntoRow) : Type 0 where
+-- What is read for a case that there is: its rule and its row, and which variable each variable of the rule is.
+pub record Found (b : AtomsBook) (c : Case) (s : StepBack) : Type 0 where
   pub there : Exists b c
-  pub rule_is : rule_of p ≡ rule_at b c.rule
-  pub row_is : row_of p ≡ row_at b c.row
+  pub rule_is : rule_of s.pair ≡ rule_at b c.rule
+  pub row_is : row_of s.pair ≡ row_at b c.row
+  pub names_are : s.names.items ≡ renaming (rule_at b c.rule) (row_at b c.row) c.number

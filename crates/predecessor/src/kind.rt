@@ -11,6 +11,7 @@ ghost use Rattle.predecessor.specs.Duty.{atoms_duties};
 
 use crate::case::RuleIntoRow;
 use crate::earlier::Earlier;
+use crate::step::StepBack;
 use crate::system::AtomSystem;
 use atoms::{Atoms, Book, BookRefusal};
 use pattern::{Case, Covering, FireRefusal, LookRefusal, PatternKind, Sort};
@@ -30,7 +31,7 @@ impl AtomSystem {
         ensures value { MatchOption result (Exists (system_book self.now) case → ⊥) (λ e. Exists (system_book self.now) case × (literals_of e ≡ (earlier_of (system_book self.now) case).literals)) }
         ensures exact { ExactOf (system_book self.now) case }
     {
-        Some(self.case(case)?.earlier(case.number))
+        Some(self.step_back(case)?.earlier())
     }
 
     /// The rule and the row with these numbers.
@@ -42,12 +43,13 @@ impl AtomSystem {
         Some(RuleIntoRow { rule, row })
     }
 
-    /// The rule and the row of a case, where there is such a case.
-    fn case(&self, case: Case) -> Option<RuleIntoRow<'_>>
+    /// The step backwards of a case, where there is such a case.
+    fn step_back(&self, case: Case) -> Option<StepBack<'_>>
         ensures { MatchOption result (Exists (system_book self.now) case → ⊥) (Found (system_book self.now) case) }
     {
         self.rule_into_row(case.rule, case.row)
             .filter(|pair| case.number < pair.case_count())
+            .map(|pair| pair.step_back(case.number))
     }
 }
 
@@ -80,8 +82,7 @@ impl PatternKind for AtomSystem {
     }
 
     fn sort(&self, case: Case) -> Sort {
-        self.case(case)
-            .map_or(Sort::Idle, |pair| pair.sort(case.number))
+        self.step_back(case).map_or(Sort::Idle, |step| step.sort())
     }
 
     fn matching_length(&self, row: usize) -> usize {
@@ -91,8 +92,8 @@ impl PatternKind for AtomSystem {
     }
 
     fn covering(&self, case: Case, named: usize, matching: &[u8]) -> Covering {
-        match (self.case(case), self.atoms.row(named)) {
-            (Some(pair), Some(named)) => pair.covering(case.number, named, matching),
+        match (self.step_back(case), self.atoms.row(named)) {
+            (Some(step), Some(named)) => step.covering(named, matching),
             _ => Covering::Malformed,
         }
     }

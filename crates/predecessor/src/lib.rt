@@ -8,6 +8,7 @@ pub mod exactness;
 pub mod kind;
 pub mod matching;
 pub mod naming;
+pub mod step;
 pub mod system;
 
 pub use earlier::Earlier;

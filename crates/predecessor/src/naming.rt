@@ -1,6 +1,9 @@
 ghost use Rattle.std.specs.Prelude.{◌≡◌, ◌+◌, ◌<◌, length, Decides};
 ghost use Rattle.predecessor.specs.Proper.{Proper, proper};
 
+/// The most variables of a rule, and so of names for them.
+pub const MAX_NAMES: usize = 4;
+
 /// Whether the new variables, from `first` on, are taken in order.
 pub(crate) fn proper(first: u8, names: &[u8]) -> bool
     requires { first + length names.now < 256 }
