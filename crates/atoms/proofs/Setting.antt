@@ -23,17 +23,6 @@ pub without_none : (s : Bool) → s ≡ (s && true)
 without_none true = refl
 without_none false = refl
 
-none_of : {X : Type 0} (n i : ℕ) (x d : X) (has : X → Bool) → has x ≡ false → has d ≡ false → has (get_or (replicate n x) i d) ≡ false
-none_of n i x d has e f = elim (cases_lt i n) [
-  | inl l ↦ ap has (get_or-replicate n i x d l) ∙ e
-  | inr l ↦ ap has (get_or_past (replicate n x) i d (rw length-replicate l)) ∙ f
-]
-
-pub none_set : (o : Objects) (p : Pairs) (n : ℕ) → ((d : ℕ) → has_object o d ≡ false) → ((d e : ℕ) → has_pair p d e ≡ false) → state_of (record { unary = replicate n o; binary = replicate n p }) ≡ nothing
-none_set o p n no_one none = same_state (state_of (record { unary = replicate n o; binary = replicate n p })) nothing
-    (λ a d. and_right _ _ (none_of n a o no_objects (λ (x : Objects). has_object x d) (no_one d) (and_right _ _ refl)))
-    (λ b d e. and_right _ _ (none_of n b p no_pairs (λ (x : Pairs). has_pair x d e) (none d e) (and_right _ _ (and_right _ _ refl))))
-
 -- The model holds what cells hold.
 pub all_held : (c : Cells) → Held (state_of c)
 all_held c = record { unary_held = unary_held; binary_held = binary_held }
