@@ -1,10 +1,9 @@
 -- What `all` answers of a list, and of a list read as plain data.
-use Rattle.std.proofs.Common.{◌≡◌, ℕ, ◌<◌, ◌≤◌, ltb, List, [], ◌∷◌, map, length, get_or, is_some, IfSome, Some, None, vec_items, vec_len, Option, Vec, sym, ap, ◌∙◌, Bor, MatchOption, Bool, true, false, MatchBool, Decides, refl, arith}
+use Rattle.std.proofs.Common.{ℕ, ◌<◌, List, [], ◌∷◌, map, length, Bool, true, false, MatchBool, Decides, refl, arith}
 use Rattle.std.specs.List.{AllByRecursion, AllWithin, HoldsAt}
 use Rattle.std.proofs.ByRecursion.{All-map, all_from_every, every_from_all}
 use Rattle.literals.proofs.Listing.{all_unmapped}
-use Rattle.std.proofs.lemmas.List.{length-map, get_or-map}
-use Rattle.std.proofs.lemmas.Bool.{ltb-true, ltb-false, false≢true}
+use Rattle.std.proofs.lemmas.Bool.{false≢true}
 
 -- Each of a list read as plain data is as it should be, by what the elements are.
 pub mapped_decides : {X Y : Type 0} (P : Y → Type 0) (f : X → Y) (xs : List X) (r : Bool) → Decides r (AllByRecursion (λ x. P (f x)) xs) → Decides r (AllByRecursion P (map f xs))

@@ -6,7 +6,7 @@ ghost use Rattle.std.specs.List.{AllByRecursion};
 ghost use Rattle.atoms.specs.Fire.{after};
 ghost use Rattle.atoms.specs.Cells.{state_of, gains, loses, gained, lost};
 
-use crate::cells::Cells;
+use crate::cells::{Cells, RELATIONS};
 use literals::{Fact, Renamed};
 
 impl Cells {
@@ -24,9 +24,11 @@ impl Cells {
 
     /// Takes away the atoms that imply a fact.
     fn lose(&mut self, fact: Fact)
-        requires { FactIn object_count fact }
         ensures { state_of self.new ≡ loses fact (state_of self.old) }
     {
+        if fact.relation() >= RELATIONS {
+            return;
+        }
         match fact {
             Fact::Unary { relation, x } => self.unary[relation as usize].remove(x),
             Fact::Binary { relation, x, y } => self.binary[relation as usize].remove(x, y),
@@ -49,7 +51,6 @@ impl Cells {
 
     /// Takes away the atoms that an effect denies.
     fn lose_all(&mut self, effect: &Renamed<'_>)
-        requires { AllByRecursion (LiteralIn object_count) (renamed effect.now) }
         ensures { state_of self.new ≡ lost (renamed effect.now) (state_of self.old) }
     {
         for literal in effect.literals {

@@ -121,11 +121,7 @@ impl Atom {
 fn fact_in_range(fact: Fact, variables: u8) -> bool
     ensures { Decides result (FactIn variables fact) }
 {
-    match fact {
-        Fact::Unary { relation, x } | Fact::From { relation, x } | Fact::Into { relation, x } =>
-            relation < RELATIONS && x < variables,
-        Fact::Binary { relation, x, y } => relation < RELATIONS && x < variables && y < variables,
-    }
+    fact.relation() < RELATIONS && fact.last_variable() < variables
 }
 
 /// Whether every literal is one of a model's relations over so many variables.

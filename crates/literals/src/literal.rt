@@ -1,6 +1,6 @@
 ghost use Rattle.std.specs.Prelude.{◌≡◌, slice_index};
 ghost use Rattle.literals.specs.declared.literal.Fact.TheVariants.{Unary};
-ghost use Rattle.literals.specs.State.{under, last_variable};
+ghost use Rattle.literals.specs.State.{under, relation_of, last_variable};
 ghost use Rattle.literals.specs.Follow.{implies, yields, denial};
 ghost use Rattle.literals.specs.Number.{literal_kind_number, KindNumbered, kind_of};
 
@@ -96,6 +96,18 @@ impl Fact {
                 Fact::Into { relation: b, x: y },
             ) => a == b && w == y,
             _ => self == other,
+        }
+    }
+
+    /// The relation of the fact.
+    pub fn relation(self) -> u8
+        ensures { result ≡ relation_of self }
+    {
+        match self {
+            Fact::Unary { relation, .. }
+            | Fact::Binary { relation, .. }
+            | Fact::From { relation, .. }
+            | Fact::Into { relation, .. } => relation,
         }
     }
 

@@ -1,4 +1,4 @@
-use Rattle.std.proofs.Common.{Bool, List, ℕ, subst}
+use Rattle.std.proofs.Common.{List, ℕ, subst}
 use Rattle.atoms.specs.Data.{pattern_of}
 use Rattle.atoms.specs.Cells.{state_of}
 use Rattle.atoms.specs.Placing.{Outcome}
