@@ -91,6 +91,7 @@ impl Atoms {
 
 impl Book {
     /// The rule with this number.
+    // Beside the method of `Atoms`, so that `fire` borrows the book alone while it writes the cells.
     fn rule(&self, number: usize) -> Option<&Rule>
         ensures { MatchOption result (length (book_of self.now).rules ≤ number) (λ x. (number < length (book_of self.now).rules) × (transition_of x.now ≡ rule_at (book_of self.now) number)) }
     {

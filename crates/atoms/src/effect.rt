@@ -50,6 +50,7 @@ impl Cells {
     }
 
     /// Takes away the atoms that an effect denies.
+    // Beside `gain_all`, and not one function over the sign, since they share the loop alone.
     fn lose_all(&mut self, effect: &Renamed<'_>)
         ensures { state_of self.new ≡ lost (renamed effect.now) (state_of self.old) }
     {

@@ -121,8 +121,8 @@ impl Pairs {
     pub(crate) fn remove_into(&mut self, second: u8)
         ensures { (d e : ℕ) → has_pair self.new d e ≡ (has_pair self.old d e && not (e == second)) }
     {
-        for first in 0..OBJECTS {
-            self.remove(first, second);
+        for objects in &mut self.from {
+            objects.remove(second);
         }
     }
 }

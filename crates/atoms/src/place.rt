@@ -24,6 +24,7 @@ impl Row {
     }
 
     /// Places the variables after those that are placed, by trying the objects for each in turn.
+    // A recursion, as backtracking is: a rule of the project.
     fn place(&self, cells: &Cells, placed: &mut ArrayVec<u8, MAX_ROW_VARIABLES>) -> bool
         requires within { array_vec_len placed.old ≤ self.now.variables }
         requires few { self.now.variables ≤ most_row_variables }

@@ -62,6 +62,7 @@ impl Book {
     }
 
     /// Whether every rule is in range.
+    // A method, as `rows_in_range` is, since its contract says what `all` decides of the rules as plain data.
     fn rules_in_range(&self) -> bool
         ensures { Decides result (AllByRecursion RuleIn (book_of self.now).rules) }
     {
