@@ -7,7 +7,7 @@ pub mod cells;
 pub mod effect;
 pub mod fire;
 pub mod model;
-pub mod objects;
+mod objects;
 pub mod place;
 pub mod range;
 
