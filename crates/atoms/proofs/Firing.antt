@@ -12,26 +12,25 @@ use Rattle.literals.specs.State.{State, fact_under, under, chosen}
 use Rattle.atoms.specs.Fire.{Transition, fires, not_met, contradicts, after}
 use Rattle.atoms.specs.Book.{Held, ChoiceHeld, object_count}
 use Rattle.atoms.specs.Range.{FactIn, LiteralIn, RuleIn}
-use Rattle.atoms.specs.Cells.{GainIn}
 use Rattle.atoms.specs.Firing.{Checked, Fires}
 
--- What a rule adds on held objects is in the model.
+-- The effect of a rule on held objects is in the model.
 object_at : (choice : List ℕ) → AllByRecursion (λ d. d < object_count) choice → (x : ℕ) → get_or choice x 0 < object_count
 object_at choice all x = elim (cases_lt x (length choice)) [
   | inl l ↦ All-get_or (λ d. d < object_count) choice x 0 l all
   | inr l ↦ omega (arith, get_or_past choice x 0 l)
 ]
 
-fact_gains : (n : ℕ) (f : ℕ → ℕ) → ((x : ℕ) → f x < object_count) → (x : Fact) → FactIn n x → FactIn object_count (fact_under f x)
-fact_gains n f held (Unary a x) h = (h.0, held x)
-fact_gains n f held (Binary b x y) h = (h.0, held x, held y)
-fact_gains n f held (From b x) h = (h.0, held x)
-fact_gains n f held (Into b x) h = (h.0, held x)
+fact_in : (n : ℕ) (f : ℕ → ℕ) → ((x : ℕ) → f x < object_count) → (x : Fact) → FactIn n x → FactIn object_count (fact_under f x)
+fact_in n f held (Unary a x) h = (h.0, held x)
+fact_in n f held (Binary b x y) h = (h.0, held x, held y)
+fact_in n f held (From b x) h = (h.0, held x)
+fact_in n f held (Into b x) h = (h.0, held x)
 
-pub effect_gains : (r : Transition) (choice : List ℕ) → RuleIn r → ChoiceHeld r choice → AllByRecursion GainIn (chosen choice r.effect)
-effect_gains r choice ranged held =
-    All-map GainIn (under (λ x. get_or choice x 0)) r.effect
-    (All-weaker (LiteralIn r.variables) (λ l. GainIn (under (λ x. get_or choice x 0) l)) (λ l h _. fact_gains r.variables (λ x. get_or choice x 0) (object_at choice held.1) l.fact h) r.effect ranged.effect_in)
+pub effect_in : (r : Transition) (choice : List ℕ) → RuleIn r → ChoiceHeld r choice → AllByRecursion (LiteralIn object_count) (chosen choice r.effect)
+effect_in r choice ranged held =
+    All-map (LiteralIn object_count) (under (λ x. get_or choice x 0)) r.effect
+    (All-weaker (LiteralIn r.variables) (λ l. LiteralIn object_count (under (λ x. get_or choice x 0) l)) (λ l h. fact_in r.variables (λ x. get_or choice x 0) (object_at choice held.1) l.fact h) r.effect ranged.effect_in)
 
 module _ (r : Transition) (s : State) (choice : List ℕ) where
   pub refusing : (e : FireRefusal) → Checked r s choice (Err e) → Fires r s choice (Err e) s

@@ -47,7 +47,7 @@ rules_one n = hlevel props
 rows_one : (n : ℕ) → IsProp (RowsAllowed n)
 rows_one n = hlevel props
 
-rule_one : (r : Transition) → IsProp (RuleIn r)
+pub rule_one : (r : Transition) → IsProp (RuleIn r)
 rule_one r p q = λ i. record {
   variables_in = at_most_one _ _ p.variables_in q.variables_in i;
   condition_short = at_most_one _ _ p.condition_short q.condition_short i;
@@ -57,7 +57,7 @@ rule_one r p q = λ i. record {
   effective = all_one EffectIn effect_one r.effect p.effective q.effective i;
 }
 
-row_one : (r : Pattern) → IsProp (RowIn r)
+pub row_one : (r : Pattern) → IsProp (RowIn r)
 row_one r p q = λ i. record {
   variables_in = at_most_one _ _ p.variables_in q.variables_in i;
   literals_short = at_most_one _ _ p.literals_short q.literals_short i;

@@ -3,6 +3,7 @@ pub mod Fire
 pub mod Book
 pub mod Range
 pub mod Data
+pub mod Objects
 pub mod Cells
 pub mod Placing
 pub mod Firing

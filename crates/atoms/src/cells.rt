@@ -3,6 +3,7 @@ ghost use Rattle.literals.specs.State.{TrueIn, Holds};
 ghost use Rattle.atoms.specs.Book.{nothing};
 ghost use Rattle.atoms.specs.Cells.{state_of};
 
+use crate::objects::{Objects, Pairs};
 use literals::{Fact, Literal};
 
 /// How many objects a model has.
@@ -11,11 +12,11 @@ pub const OBJECTS: u8 = 16;
 /// How many relations of each sort there are.
 pub const RELATIONS: u8 = 8;
 
-/// A state of a model: a cell for each unary atom and for each binary one.
+/// A state of a model: the objects of each unary relation, and the pairs of each binary one.
 #[derive(Clone, Copy)]
 pub struct Cells {
-    pub(super) unary: [bool; 128],
-    pub(super) binary: [bool; 2048],
+    pub(super) unary: [Objects; RELATIONS as usize],
+    pub(super) binary: [Pairs; RELATIONS as usize],
 }
 
 impl Cells {
@@ -24,63 +25,23 @@ impl Cells {
         ensures { state_of result ≡ nothing }
     {
         Cells {
-            unary: [false; 128],
-            binary: [false; 2048],
+            unary: [Objects::new(); RELATIONS as usize],
+            binary: [Pairs::new(); RELATIONS as usize],
         }
-    }
-
-    /// Whether the state has a(object).
-    fn has_unary(&self, relation: u8, object: u8) -> bool
-        ensures { result ≡ (state_of self.now).unary relation object }
-    {
-        relation < RELATIONS
-            && object < OBJECTS
-            && self.unary[relation as usize * 16 + object as usize]
-    }
-
-    /// Whether the state has b(first, second).
-    fn has_binary(&self, relation: u8, first: u8, second: u8) -> bool
-        ensures { result ≡ (state_of self.now).binary relation first second }
-    {
-        relation < RELATIONS
-            && first < OBJECTS
-            && second < OBJECTS
-            && self.binary[(relation as usize * 16 + first as usize) * 16 + second as usize]
-    }
-
-    /// Whether some z has b(object, z).
-    fn has_from(&self, relation: u8, object: u8) -> bool
-        ensures { Decides result ((z : ℕ) × ((state_of self.now).binary relation object z ≡ true)) }
-    {
-        for z in 0..OBJECTS {
-            if self.has_binary(relation, object, z) {
-                return true;
-            }
-        }
-        false
-    }
-
-    /// Whether some z has b(z, object).
-    fn has_into(&self, relation: u8, object: u8) -> bool
-        ensures { Decides result ((z : ℕ) × ((state_of self.now).binary relation z object ≡ true)) }
-    {
-        for z in 0..OBJECTS {
-            if self.has_binary(relation, z, object) {
-                return true;
-            }
-        }
-        false
     }
 
     /// Whether a fact of objects is true in the state.
     fn has(&self, fact: Fact) -> bool
         ensures { Decides result (TrueIn (state_of self.now) fact) }
     {
+        if fact.relation() >= RELATIONS {
+            return false;
+        }
         match fact {
-            Fact::Unary { relation, x } => self.has_unary(relation, x),
-            Fact::Binary { relation, x, y } => self.has_binary(relation, x, y),
-            Fact::From { relation, x } => self.has_from(relation, x),
-            Fact::Into { relation, x } => self.has_into(relation, x),
+            Fact::Unary { relation, x } => self.unary[relation as usize].contains(x),
+            Fact::Binary { relation, x, y } => self.binary[relation as usize].contains(x, y),
+            Fact::From { relation, x } => self.binary[relation as usize].has_from(x),
+            Fact::Into { relation, x } => self.binary[relation as usize].has_into(x),
         }
     }
 

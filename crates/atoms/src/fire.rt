@@ -1,7 +1,7 @@
-ghost use Rattle.std.specs.Prelude.{◌<◌, Decides};
-ghost use Rattle.std.specs.List.{AllByRecursion};
+ghost use Rattle.std.specs.Prelude.{◌≡◌, Decides};
 ghost use Rattle.literals.specs.State.{AllHold, chosen};
-ghost use Rattle.atoms.specs.Book.{ChoiceHeld, object_count};
+ghost use Rattle.literals.specs.Renamed.{renamed};
+ghost use Rattle.atoms.specs.Book.{ChoiceHeld};
 ghost use Rattle.atoms.specs.Range.{RuleIn};
 ghost use Rattle.atoms.specs.Data.{transition_of};
 ghost use Rattle.atoms.specs.Cells.{state_of};
@@ -9,7 +9,7 @@ ghost use Rattle.atoms.specs.Firing.{Checked, Fires};
 
 use crate::book::Rule;
 use crate::cells::{Cells, OBJECTS};
-use literals::{Literal, contradictory_under};
+use literals::Renamed;
 use pattern::FireRefusal;
 
 impl Rule {
@@ -19,7 +19,7 @@ impl Rule {
         ensures { Fires (transition_of self.now) (state_of cells.old) choice.now result (state_of cells.new) }
     {
         self.check(cells, choice)?;
-        cells.change(&self.effect, choice);
+        cells.change(&self.effect_under(choice));
         Ok(())
     }
 
@@ -30,45 +30,45 @@ impl Rule {
         if !self.holds_choice(choice) {
             return Err(FireRefusal::ChoiceNotHeld);
         }
-        if !cells.all_hold(&self.condition, choice) {
+        let condition = Renamed {
+            literals: &self.condition,
+            names: choice,
+        };
+        if !cells.all_hold(&condition) {
             return Err(FireRefusal::ConditionNotMet);
         }
-        if contradictory_under(&self.effect, choice) {
+        if self.effect_under(choice).is_contradictory() {
             return Err(FireRefusal::EffectContradictory);
         }
         Ok(())
+    }
+
+    /// The effect on the chosen objects.
+    fn effect_under<'a>(&'a self, choice: &'a [u8]) -> Renamed<'a>
+        ensures { renamed result ≡ chosen choice.now (transition_of self.now).effect }
+    {
+        Renamed {
+            literals: &self.effect,
+            names: choice,
+        }
     }
 
     /// Whether the choice has an object of the model for each variable.
     fn holds_choice(&self, choice: &[u8]) -> bool
         ensures { Decides result (ChoiceHeld (transition_of self.now) choice.now) }
     {
-        choice.len() == self.variables as usize && are_objects(choice)
+        choice.len() == self.variables as usize && choice.iter().all(|object| *object < OBJECTS)
     }
 }
 
 impl Cells {
-    /// Whether every literal holds of the chosen objects.
-    fn all_hold(&self, literals: &[Literal], choice: &[u8]) -> bool
-        ensures { Decides result (AllHold (state_of self.now) (chosen choice.now literals.now)) }
+    /// Whether every literal holds.
+    fn all_hold(&self, literals: &Renamed<'_>) -> bool
+        ensures { Decides result (AllHold (state_of self.now) (renamed literals.now)) }
     {
-        for literal in literals {
-            if !self.holds(literal.under(choice)) {
-                return false;
-            }
-        }
-        true
+        literals
+            .literals
+            .iter()
+            .all(|literal| self.holds(literal.under(literals.names)))
     }
-}
-
-/// Whether each is an object of the model.
-fn are_objects(choice: &[u8]) -> bool
-    ensures { Decides result (AllByRecursion (λ d. d < object_count) choice.now) }
-{
-    for object in choice {
-        if *object >= OBJECTS {
-            return false;
-        }
-    }
-    true
 }

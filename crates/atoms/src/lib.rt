@@ -7,6 +7,7 @@ pub mod cells;
 pub mod effect;
 pub mod fire;
 pub mod model;
+mod objects;
 pub mod place;
 pub mod range;
 

@@ -1,5 +1,6 @@
 -- What follows from a set of literals, and when the set is contradictory.
-use Rattle.std.specs.Prelude.{◌≡◌, Bool, true, false, not, ◌&&◌, ◌||◌, List, [], ◌∷◌, ◌==◌}
+use Rattle.std.specs.Prelude.{◌≡◌, Bool, true, false, not, ◌&&◌, List, ◌==◌}
+use Rattle.std.specs.List.{list_any}
 use Rattle.literals.specs.declared.literal.Fact.{Fact}
 use Rattle.literals.specs.declared.literal.Fact.TheVariants.{Unary, Binary, From, Into}
 use Rattle.literals.specs.declared.literal.Literal.{Literal}
@@ -38,21 +39,13 @@ yields k l = by_signs k.affirmed l.affirmed (implies k.fact l.fact) (implies l.f
 abbrev pub denial : Literal → Literal
 denial l = record { fact = l.fact; affirmed = not l.affirmed }
 
-abbrev pub any : {X : Type 0} → (X → Bool) → List X → Bool
-any p [] = false
-any p (x ∷ xs) = p x || any p xs
-
-abbrev pub all : {X : Type 0} → (X → Bool) → List X → Bool
-all p [] = true
-all p (x ∷ xs) = p x && all p xs
-
 -- A literal follows from a set: it is in it, or is from-b(x) or into-b(y) beside b(x, y), or denies b(x, y) beside the denial of from-b(x) or of into-b(y).
 abbrev pub follows : List Literal → Literal → Bool
-follows ls l = any (λ k. yields k l) ls
+follows ls l = list_any (λ k. yields k l) ls
 
 -- A set is contradictory when it holds a literal and its denial, or b(x, y) and the denial of from-b(x) or of into-b(y): the denial of one of it follows from it.
 abbrev pub contradictory : List Literal → Bool
-contradictory ls = any (λ l. follows ls (denial l)) ls
+contradictory ls = list_any (λ l. follows ls (denial l)) ls
 
 -- What follows from literals that hold in a state holds there, and a contradictory set holds nowhere.
 pub record Sound (ls : List Literal) : Type 0 where

@@ -1,3 +1,4 @@
 pub mod State
 pub mod Follow
 pub mod Number
+pub mod Renamed

@@ -1,9 +1,10 @@
 -- The kinds of literals: their numbers in a file, and the kind of a literal.
-use Rattle.std.specs.Prelude.{ℕ, Bool, true, false}
+use Rattle.std.specs.Prelude.{◌≡◌, ◌≢◌, ℕ, Bool, true, false, Result, MatchResult}
 use Rattle.literals.specs.declared.literal.Fact.{Fact}
 use Rattle.literals.specs.declared.literal.Fact.TheVariants as fact
 use Rattle.literals.specs.declared.literal.Literal.{Literal}
 use Rattle.literals.specs.declared.literal.LiteralKind.{LiteralKind}
+use Rattle.literals.specs.declared.literal.NoSuchKind.{NoSuchKind}
 use Rattle.literals.specs.declared.literal.LiteralKind.TheVariants.{Unary, NotUnary, Binary, NotBinary, From, NotFrom, Into, NotInto}
 
 abbrev pub literal_kind_number : LiteralKind → ℕ
@@ -15,6 +16,10 @@ literal_kind_number From = 4
 literal_kind_number NotFrom = 5
 literal_kind_number Into = 6
 literal_kind_number NotInto = 7
+
+-- The kind with this number, or that there is none.
+abbrev pub KindNumbered : ℕ → Result LiteralKind NoSuchKind → Type 0
+KindNumbered number result = MatchResult result (λ k. literal_kind_number k ≡ number) (λ e. (e.0 ≡ number) × ((k : LiteralKind) → literal_kind_number k ≢ number))
 
 -- By its fact, and whether that is affirmed.
 abbrev pub kind_by : Fact → Bool → LiteralKind

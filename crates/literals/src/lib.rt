@@ -2,7 +2,9 @@
 #![tactic(auto)]
 
 pub mod literal;
+pub mod renamed;
 pub mod set;
 
-pub use literal::{Fact, Literal, LiteralKind};
-pub use set::{contradictory, contradictory_under, follows, follows_under};
+pub use literal::{Fact, Literal, LiteralKind, NoSuchKind};
+pub use renamed::Renamed;
+pub use set::{contradictory, follows};

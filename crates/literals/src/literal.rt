@@ -1,7 +1,8 @@
-ghost use Rattle.std.specs.Prelude.{◌≡◌, MatchOption, ◌≢◌, slice_index};
-ghost use Rattle.literals.specs.State.{under, last_variable};
+ghost use Rattle.std.specs.Prelude.{◌≡◌, slice_index};
+ghost use Rattle.literals.specs.declared.literal.Fact.TheVariants.{Unary};
+ghost use Rattle.literals.specs.State.{under, relation_of, last_variable};
 ghost use Rattle.literals.specs.Follow.{implies, yields, denial};
-ghost use Rattle.literals.specs.Number.{literal_kind_number, kind_of};
+ghost use Rattle.literals.specs.Number.{literal_kind_number, KindNumbered, kind_of};
 
 /// The kinds of literals, by their numbers in a file.
 #[derive(Clone, Copy, PartialEq, Eq, Debug)]
@@ -24,29 +25,35 @@ pub enum LiteralKind {
     NotInto = 7,
 }
 
-impl LiteralKind {
-    /// The kind with this number.
-    pub fn new(number: u8) -> Option<LiteralKind>
-        ensures { MatchOption result ((k : LiteralKind) → literal_kind_number k ≢ number) (λ k. literal_kind_number k ≡ number) }
-    {
+/// A number that no kind of literals has.
+#[derive(Clone, Copy, PartialEq, Eq, Debug)]
+pub struct NoSuchKind(pub u8);
+
+impl TryFrom<u8> for LiteralKind {
+    type Error = NoSuchKind;
+
+    ghost try_from_gives = { KindNumbered };
+
+    fn try_from(number: u8) -> Result<Self, NoSuchKind> {
         match number {
-            0 => Some(LiteralKind::Unary),
-            1 => Some(LiteralKind::NotUnary),
-            2 => Some(LiteralKind::Binary),
-            3 => Some(LiteralKind::NotBinary),
-            4 => Some(LiteralKind::From),
-            5 => Some(LiteralKind::NotFrom),
-            6 => Some(LiteralKind::Into),
-            7 => Some(LiteralKind::NotInto),
-            _ => None,
+            0 => Ok(LiteralKind::Unary),
+            1 => Ok(LiteralKind::NotUnary),
+            2 => Ok(LiteralKind::Binary),
+            3 => Ok(LiteralKind::NotBinary),
+            4 => Ok(LiteralKind::From),
+            5 => Ok(LiteralKind::NotFrom),
+            6 => Ok(LiteralKind::Into),
+            7 => Ok(LiteralKind::NotInto),
+            _ => Err(NoSuchKind(number)),
         }
     }
+}
 
-    /// The number of the kind in a file.
-    pub fn number(self) -> u8
-        ensures { result ≡ literal_kind_number self }
-    {
-        self as u8
+impl From<LiteralKind> for u8 {
+    ghost from_gives = { λ kind number. number ≡ literal_kind_number kind };
+
+    fn from(kind: LiteralKind) -> u8 {
+        kind as u8
     }
 }
 
@@ -63,25 +70,21 @@ pub enum Fact {
     Into { relation: u8, x: u8 },
 }
 
+impl Default for Fact {
+    ghost is_default = { λ f. f ≡ Unary 0 0 };
+
+    // By hand, since a derive needs a variant without fields.
+    fn default() -> Self {
+        Fact::Unary { relation: 0, x: 0 }
+    }
+}
+
 impl Fact {
     /// Whether the fact implies another: each implies itself, and b(x, y) that there is one from x and one into y.
     pub fn implies(self, other: Fact) -> bool
         ensures { result ≡ implies self other }
     {
         match (self, other) {
-            (Fact::Unary { relation: a, x }, Fact::Unary { relation: b, x: y }) => a == b && x == y,
-            (
-                Fact::Binary {
-                    relation: a,
-                    x,
-                    y: w,
-                },
-                Fact::Binary {
-                    relation: b,
-                    x: y,
-                    y: z,
-                },
-            ) => a == b && (x == y && w == z),
             (Fact::Binary { relation: a, x, .. }, Fact::From { relation: b, x: y }) => a == b
                 && x == y,
             (
@@ -92,9 +95,19 @@ impl Fact {
                 },
                 Fact::Into { relation: b, x: y },
             ) => a == b && w == y,
-            (Fact::From { relation: a, x }, Fact::From { relation: b, x: y }) => a == b && x == y,
-            (Fact::Into { relation: a, x }, Fact::Into { relation: b, x: y }) => a == b && x == y,
-            _ => false,
+            _ => self == other,
+        }
+    }
+
+    /// The relation of the fact.
+    pub fn relation(self) -> u8
+        ensures { result ≡ relation_of self }
+    {
+        match self {
+            Fact::Unary { relation, .. }
+            | Fact::Binary { relation, .. }
+            | Fact::From { relation, .. }
+            | Fact::Into { relation, .. } => relation,
         }
     }
 
@@ -110,7 +123,8 @@ impl Fact {
 }
 
 /// A fact that is affirmed, or denied.
-#[derive(Clone, Copy, PartialEq, Eq, Debug)]
+// The sign is a `bool`, since it is the answer to a question: what holds is `has(fact) == affirmed`.
+#[derive(Clone, Copy, PartialEq, Eq, Debug, Default)]
 pub struct Literal {
     pub fact: Fact,
     pub affirmed: bool,
@@ -118,6 +132,7 @@ pub struct Literal {
 
 impl Literal {
     /// The kind of the literal.
+    // A method, and no `From`, since the kind alone does not give the literal back.
     pub fn kind(self) -> LiteralKind
         ensures { result ≡ kind_of self }
     {
@@ -138,8 +153,8 @@ impl Literal {
         ensures { result ≡ denial self }
     {
         Literal {
-            fact: self.fact,
             affirmed: !self.affirmed,
+            ..self
         }
     }
 
@@ -177,10 +192,7 @@ impl Literal {
                 x: name(names, x),
             },
         };
-        Literal {
-            fact,
-            affirmed: self.affirmed,
-        }
+        Literal { fact, ..self }
     }
 }
 
@@ -188,8 +200,5 @@ impl Literal {
 fn name(names: &[u8], variable: u8) -> u8
     ensures { result ≡ slice_index names.now variable }
 {
-    match names.get(variable as usize) {
-        Some(name) => *name,
-        None => 0,
-    }
+    names.get(usize::from(variable)).copied().unwrap_or(0)
 }

@@ -1,6 +1,7 @@
 -- Two cases that are not exact.
 use Rattle.std.proofs.Common.{◌≡◌, ℕ, suc, true, false, ◌&&◌, ◌||◌, eqb, List, get_or, sym, refl, ap, ◌∙◌, inl, inr, arith}
-use Rattle.std.proofs.lemmas.Bool.{and_parts, and_from, and_right, or_left, or_from, not-true, not_from_false, both_ways, eqb-true, eq-eqb, ne_eqb, or_cases, false≢true}
+use Rattle.std.proofs.lemmas.Bool.{and_parts, and_right, or_left, or_from, not-true, not_from_false, both_ways, ne_eqb, or_cases, false≢true}
+use Rattle.std.proofs.lemmas.Grind.{common_steps}
 use Rattle.literals.specs.State.{State}
 use Rattle.pattern.specs.Meaning.{to}
 use Rattle.atoms.specs.Pattern.{StandsIn}
@@ -26,10 +27,7 @@ one_pair = record { unary = λ a d. false; binary = λ b d e. eqb b 0 && (eqb d 
 
 -- two objects that are those of the pair
 same_pair : (x y v w : ℕ) → (eqb x 0 && eqb y 1) ≡ true → (eqb v 0 && eqb w 1) ≡ true → (eqb x v && eqb y w) ≡ true
-same_pair x y v w p q =
-    let a = and_parts (eqb x 0) (eqb y 1) p in
-    let b = and_parts (eqb v 0) (eqb w 1) q in
-    and_from (eqb x v) (eqb y w) (eq-eqb x v (eqb-true x 0 a.0 ∙ sym (eqb-true v 0 b.0))) (eq-eqb y w (eqb-true y 1 a.1 ∙ sym (eqb-true w 1 b.1)))
+same_pair x y v w p q = grind (arith, common_steps)
 
 never_having : (choice : List ℕ) (t : State) → Next taking one_pair choice (to t) → StandsIn having t → ⊥
 never_having choice t (fires long met fair is) stands =

@@ -1,12 +1,12 @@
 -- Going on from an earlier state: where the effect settles every literal of the row, the rule leads into it.
-use Rattle.std.proofs.Common.{◌≡◌, ℕ, true, false, not, ◌||◌, List, [], map, sym, refl, ap, ◌∙◌, subst, inl, inr, arith}
-use Rattle.std.specs.List.{AllByRecursion}
+use Rattle.std.proofs.Common.{◌≡◌, ℕ, true, false, not, ◌||◌, List, map, sym, refl, ap, ◌∙◌, subst, inl, inr, arith}
+use Rattle.std.specs.List.{AllByRecursion, list_any}
 use Rattle.std.proofs.lemmas.Bool.{not-true, not_from_false, or_cases, or_parts, or_from, and_right, both_ways, cases_Bool}
 use Rattle.std.proofs.lemmas.List.{map-append, length-map}
-use Rattle.std.proofs.ByRecursion.{All-map, All-get_or}
+use Rattle.std.proofs.ByRecursion.{All-map}
 use Rattle.literals.specs.declared.Literal.{Literal}
 use Rattle.literals.specs.State.{State, Holds, AllHold, under, chosen}
-use Rattle.literals.specs.Follow.{denial, any, contradictory}
+use Rattle.literals.specs.Follow.{denial, contradictory}
 use Rattle.literals.proofs.Listing.{each_passes, each_fails, all_from_both, all_unmapped, all_parts, all_unfiltered}
 use Rattle.literals.proofs.Renaming.{follows_kept}
 use Rattle.pattern.specs.declared.Case.{Case}
@@ -20,6 +20,7 @@ use Rattle.predecessor.specs.Exact.{settles, settled, Exact, ExactOf}
 use Rattle.predecessor.specs.Injective.{follows_under, contradictory_under, thins_under}
 use Rattle.predecessor.specs.Firing.{holds_after, made_true_holds}
 use Rattle.predecessor.specs.Numbering.{length_digits}
+use Rattle.predecessor.specs.Ranges.{rule_in_range, row_in_range}
 use Rattle.predecessor.specs.Stepping.{by_way, effect_within, row_within, affirms_atoms}
 
 module _ (rule : Transition) (row : Pattern) (n : ℕ) (rule_in : RuleIn rule) (row_in : RowIn row) (busy : idle rule row n ≡ false) where
@@ -27,7 +28,7 @@ module _ (rule : Transition) (row : Pattern) (n : ℕ) (rule_in : RuleIn rule) (
   effect = effect_in_case rule row n
 
   -- what a case that is not idle is not
-  named : (contradictory effect || any (made_false effect) row.literals) ≡ false
+  named : (contradictory effect || list_any (made_false effect) row.literals) ≡ false
   named = (or_parts (not (proper row.variables (renaming rule row n))) _ (or_parts (ruled_out rule row (renaming rule row n)) (contradictory (earlier rule row n).literals) busy).0).1
 
   fair : contradictory effect ≡ false
@@ -84,7 +85,7 @@ module _ (rule : Transition) (row : Pattern) (n : ℕ) (rule_in : RuleIn rule) (
 -- Every case of a book in range is exact where its effect settles its row.
 pub exact_of : (b : AtomsBook) → InRange b → (c : Case) → ExactOf b c
 exact_of b range c e s w =
-    let rule_in = All-get_or RuleIn b.rules c.rule (record { variables = 0; condition = []; effect = [] }) w.there.rule_in range.each_rule_in in
-    let row_in = All-get_or RowIn b.rows c.row (record { variables = 0; literals = [] }) w.there.row_in range.each_row_in in
+    let rule_in = rule_in_range b range c.rule w.there.rule_in in
+    let row_in = row_in_range b range c.row w.there.row_in in
     let r = exact (rule_at b c.rule) (row_at b c.row) c.number rule_in row_in w.not_idle e s w.stands in
     (r.0, r.1, (w.there.rule_in, r.2), (w.there.row_in, r.3))

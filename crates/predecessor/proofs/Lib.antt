@@ -1,8 +1,5 @@
 pub mod Ordering
 pub mod Leading
 pub mod Inexact
-pub mod Checking
 pub mod Loops
-pub mod Sorting
 pub mod Examples
-pub mod Asking

@@ -1,52 +1,33 @@
 -- Going through a list and writing another: the steps of the loops.
-use Rattle.std.proofs.Common.{◌≡◌, ℕ, suc, ◌+◌, ◌-◌, ◌/◌, ◌%◌, ◌<◌, ◌≤◌, Bool, false, cond, ◌&&◌, eqb, leb, List, [], ◌∷◌, ◌++◌, length, get_or, take, drop, set, sym, ap, ◌∙◌, add-one, arith}
-use Rattle.std.proofs.lemmas.Bool.{cond-true, cond-false, eq-eqb, ne_eqb, le-leb, lt-leb, and_left}
-use Rattle.std.proofs.lemmas.List.{append_assoc, append-nil, length-set, take_all, take_more_set, at_drop_more, at_drop_all}
+use Rattle.std.proofs.Common.{◌≡◌, ℕ, suc, ◌+◌, ◌-◌, ◌/◌, ◌%◌, ◌<◌, ◌≤◌, Bool, cond, ◌&&◌, eqb, leb, List, [], ◌∷◌, ◌++◌, length, get_or, take, drop, filter, sym, ap, ◌∙◌, arith}
+use Rattle.std.proofs.lemmas.List.{length-append, length-map, length-take, append_assoc, at_drop_more}
+use Rattle.literals.specs.declared.Literal.{Literal}
+use Rattle.literals.specs.State.{under, chosen}
+use Rattle.atoms.specs.Pattern.{Pattern}
+use Rattle.atoms.specs.Fire.{Transition}
+use Rattle.atoms.specs.Range.{RuleIn, RowIn}
+use Rattle.std.proofs.lemmas.List.Sums.{length-filter, count_by-le-length}
 use Rattle.predecessor.specs.Proper.{digits, proper}
+use Rattle.predecessor.specs.Earlier.{kept}
 
 -- One more of what is left to write is written.
 pub written_more : {Y : Type 0} (done left rest total : List Y) (y : Y) → done ++ left ≡ total → left ≡ y ∷ rest → (done ++ y ∷ []) ++ rest ≡ total
 written_more done left rest total y e is = append_assoc done (y ∷ []) rest ∙ ap (λ ys. done ++ ys) (sym is) ∙ e
 
-module _ (base number : ℕ) (xs : List ℕ) (i rest : ℕ) (so_far : digits base (length xs) number ≡ take i xs ++ digits base (length xs - i) rest) where
-  -- what is left to write, one digit on
-  next_digit : i < length xs → digits base (length xs - i) rest ≡ rest % base ∷ digits base (length xs - (i + 1)) (rest / base)
-  next_digit h = let one : length xs - i ≡ suc (length xs - (i + 1)) = omega arith in ap (λ (k : ℕ). digits base k rest) one
+-- What is left to write, one digit on.
+pub next_digit : (base k i rest : ℕ) → i < k → digits base (k - i) rest ≡ rest % base ∷ digits base (k - (i + 1)) (rest / base)
+next_digit base k i rest h = let one : k - i ≡ suc (k - (i + 1)) = omega arith in ap (λ (j : ℕ). digits base j rest) one
 
-  pub digits_more : i < length xs → digits base (length (set xs i (rest % base))) number ≡ take (i + 1) (set xs i (rest % base)) ++ digits base (length (set xs i (rest % base)) - (i + 1)) (rest / base)
-  digits_more h =
-      rw (length-set xs i (rest % base))
-      (sym (written_more (take i xs) (digits base (length xs - i) rest) (digits base (length xs - (i + 1)) (rest / base)) (digits base (length xs) number) (rest % base) (sym so_far) (next_digit h))
-      ∙ ap (λ ds. ds ++ digits base (length xs - (i + 1)) (rest / base)) (sym (take_more_set xs i (rest % base) h)))
+-- One name more is looked at.
+pub proper_step : (next : ℕ) (names : List ℕ) (i : ℕ) → i < length names → proper next (drop i names) ≡ (leb (get_or names i 0) next && proper (cond (eqb (get_or names i 0) next) (suc next) next) (drop (i + 1) names))
+proper_step next names i h = at_drop_more (proper next) names i 0 h
 
-  pub digits_all : length xs ≤ i → xs ≡ digits base (length xs) number
-  digits_all h =
-      let none : length xs - i ≡ 0 = omega arith in
-      sym (so_far ∙ ap (λ (k : ℕ). take i xs ++ digits base k rest) none ∙ append-nil (take i xs) ∙ take_all i xs h)
+length-filter-le : {X : Type 0} (p : X → Bool) (xs : List X) → length (filter p xs) ≤ length xs
+length-filter-le p xs = rw (length-filter p xs) (count_by-le-length p xs)
 
-module _ (first : ℕ) (names : List ℕ) (i next : ℕ) (h : i < length names) (left : proper next (drop i names) ≡ proper first names) where
-  here : proper first names ≡ (leb (get_or names i 0) next && proper (cond (eqb (get_or names i 0) next) (suc next) next) (drop (i + 1) names))
-  here = sym left ∙ at_drop_more (proper next) names i 0 h
-
-  pub proper_failed : next < get_or names i 0 → false ≡ proper first names
-  proper_failed k = sym (here ∙ and_left _ _ (lt-leb (get_or names i 0) next k))
-
-  at_most : get_or names i 0 ≤ next → proper first names ≡ proper (cond (eqb (get_or names i 0) next) (suc next) next) (drop (i + 1) names)
-  at_most k = here ∙ ap (λ (t : Bool). t && proper (cond (eqb (get_or names i 0) next) (suc next) next) (drop (i + 1) names)) (le-leb (get_or names i 0) next k)
-
-  pub proper_new : get_or names i 0 ≡ next → proper (next + 1) (drop (i + 1) names) ≡ proper first names
-  proper_new e = ap (λ (n : ℕ). proper n (drop (i + 1) names)) (add-one next ∙ sym (cond-true {A = ℕ} (eqb (get_or names i 0) next) (suc next) next (eq-eqb _ _ e))) ∙ sym (at_most (omega arith))
-
-  pub proper_old : get_or names i 0 ≤ next → (get_or names i 0 ≡ next → ⊥) → proper next (drop (i + 1) names) ≡ proper first names
-  proper_old k e = ap (λ (n : ℕ). proper n (drop (i + 1) names)) (sym (cond-false {A = ℕ} (eqb (get_or names i 0) next) (suc next) next (ne_eqb _ _ e))) ∙ sym (at_most k)
-
--- Adding to a list what a function makes of each element, or the elements that a test lets stay.
-module _ {X Y : Type 0} (F : List X → List Y) (xs : List X) (i : ℕ) (done total : List Y) (so_far : done ++ F (drop i xs) ≡ total) where
-  pub added_all : length xs ≤ i → F [] ≡ [] → done ≡ total
-  added_all h none = sym (append-nil done) ∙ ap (λ ys. done ++ ys) (sym (at_drop_all F xs i h ∙ none)) ∙ so_far
-
-  pub added_more : (d : X) (y : Y) → i < length xs → F (get_or xs i d ∷ drop (i + 1) xs) ≡ y ∷ F (drop (i + 1) xs) → (done ++ y ∷ []) ++ F (drop (i + 1) xs) ≡ total
-  added_more d y h is = written_more done (F (drop i xs)) (F (drop (i + 1) xs)) total y so_far (at_drop_more F xs i d h ∙ is)
-
-  pub added_none : (d : X) → i < length xs → F (get_or xs i d ∷ drop (i + 1) xs) ≡ F (drop (i + 1) xs) → done ++ F (drop (i + 1) xs) ≡ total
-  added_none d h is = ap (λ ys. done ++ ys) (sym (at_drop_more F xs i d h ∙ is)) ∙ so_far
+-- While there are literals of the row to look at, the earlier pattern is not full.
+pub not_full : (rule : Transition) (row : Pattern) → RuleIn rule → RowIn row → (names : List ℕ) (i : ℕ) → i < length row.literals → length (chosen names rule.condition ++ kept (chosen names rule.effect) (take i row.literals)) < 28
+not_full rule row rule_in row_in names i h =
+    let stay : List Literal = kept (chosen names rule.effect) (take i row.literals) in
+    let some : length stay ≤ length (take i row.literals) = length-filter-le _ (take i row.literals) in
+    omega (arith, some, length-map rule.condition (under (λ x. get_or names x 0)), length-append (chosen names rule.condition) stay, length-take i row.literals, rule_in.condition_short, row_in.literals_short)

@@ -1,9 +1,9 @@
 -- A book of atoms in range keeps the duties of a pattern kind.
-use Rattle.std.specs.Prelude.{◌≡◌, ℕ, ◌<◌, Bool, true, false, cond, ◌&&◌, List, [], length, Decides, ◌≢◌, nat_lt, refl}
+use Rattle.std.specs.Prelude.{◌≡◌, ℕ, ◌<◌, Bool, true, false, cond, ◌&&◌, List, length, Decides, ◌≢◌, nat_lt, refl}
 use Rattle.std.proofs.Common.{sym, ap, subst, ◌∙◌, inl, inr, arith}
 use Rattle.std.proofs.lemmas.Bool.{and_parts, and_from, lt-ltb, ltb-true, both_ways, cond-true, cond_both, cases_eq, cases_Bool}
-use Rattle.std.proofs.ByRecursion.{All-get_or}
 use Rattle.std.proofs.lemmas.Bool.Decides.{Decides-and, Decides-ltb, Decides-like}
+use Rattle.std.proofs.lemmas.Grind.{common_steps}
 use Rattle.pattern.specs.declared.Case.{Case}
 use Rattle.pattern.specs.declared.FireRefusal.{FireRefusal}
 use Rattle.pattern.specs.declared.FireRefusal.TheVariants.{ChoiceNotHeld, ConditionNotMet, EffectContradictory}
@@ -19,6 +19,7 @@ use Rattle.atoms.specs.Book.{AtomsBook, rule_at, row_at, NextOf, StandsOf}
 use Rattle.atoms.specs.Range.{RuleIn, RowIn, InRange}
 use Rattle.predecessor.specs.Earlier.{case_count, earlier, idle, covers, covers_itself, well_formed}
 use Rattle.predecessor.specs.Kind.{Exists, exists, idle_of, earlier_of, EarlierOf, sort_of, covering_of, atoms_meaning}
+use Rattle.predecessor.specs.Ranges.{rule_in_range, row_in_range}
 use Rattle.predecessor.specs.Limits.{few}
 use Rattle.predecessor.specs.Stepping.{stepped}
 use Rattle.predecessor.specs.Covering.{itself_stands, matched_stands}
@@ -64,22 +65,13 @@ module _ (r : Transition) (s : State) (choice : List ℕ) where
 
 -- the sorts and coverings, by their tests
 idle_test : (x y z : Bool) → cond x (cond y Idle (cond z Own Open)) Idle ≡ Idle → x ≡ true → y ≢ false
-idle_test true true z e h k = let n : ◌≡◌ {A = ℕ} 0 1 = cc in omega arith
-idle_test true false true e h k = let n : ◌≡◌ {A = ℕ} 0 1 = cc in omega arith
-idle_test true false false e h k = let n : ◌≡◌ {A = ℕ} 0 1 = cc in omega arith
-idle_test false y z e h k = let n : ◌≡◌ {A = ℕ} 0 1 = cc in omega arith
+idle_test x y z e h k = grind (arith, common_steps)
 
 own_test : (x y z : Bool) → cond x (cond y Idle (cond z Own Open)) Idle ≡ Own → z ≡ true
-own_test true true z e = absurd (let n : ◌≡◌ {A = ℕ} 0 1 = cc in omega arith)
-own_test true false true e = refl
-own_test true false false e = absurd (let n : ◌≡◌ {A = ℕ} 0 1 = cc in omega arith)
-own_test false y z e = absurd (let n : ◌≡◌ {A = ℕ} 0 1 = cc in omega arith)
+own_test x y z e = grind (arith, common_steps)
 
 covers_test : (x y z : Bool) → cond x (cond y (cond z Covers DoesNotCover) Malformed) Malformed ≡ Covers → (x ≡ true) × (y ≡ true) × (z ≡ true)
-covers_test true true true e = (refl, refl, refl)
-covers_test true true false e = absurd (let n : ◌≡◌ {A = ℕ} 0 1 = cc in omega arith)
-covers_test true false z e = absurd (let n : ◌≡◌ {A = ℕ} 0 1 = cc in omega arith)
-covers_test false y z e = absurd (let n : ◌≡◌ {A = ℕ} 0 1 = cc in omega arith)
+covers_test x y z e = grind (arith, common_steps)
 
 module _ (b : AtomsBook) where
   pub decides_exists : (c : Case) → Decides (exists b c) (Exists b c)
@@ -102,15 +94,9 @@ module _ (b : AtomsBook) where
       )
 
   module _ (range : InRange b) where
-    rule_within : (rule : ℕ) → rule < length b.rules → RuleIn (rule_at b rule)
-    rule_within rule h = All-get_or RuleIn b.rules rule (record { variables = 0; condition = []; effect = [] }) h range.each_rule_in
-
-    row_within : (row : ℕ) → row < length b.rows → RowIn (row_at b row)
-    row_within row h = All-get_or RowIn b.rows row (record { variables = 0; literals = [] }) h range.each_row_in
-
     steps_back : (s t : State) (row rule : ℕ) (choice : List ℕ) → row < length b.rows → rule < length b.rules → NextOf b s rule choice (to t) → StandsOf b row t → (n : ℕ) × (n < (atoms_meaning b).cases row rule) × EarlierOf b (record { row = row; rule = rule; number = n }) s
     steps_back s t row rule choice h k x stands =
-        let w = back (rule_at b rule) s choice (row_at b row) t (rule_within rule k) (row_within row h) x.1 stands.1 in (
+        let w = back (rule_at b rule) s choice (row_at b row) t (rule_in_range b range rule k) (row_in_range b range row h) x.1 stands.1 in (
           w.0,
           rw (cond-true {A = ℕ} (nat_lt row (length b.rows) && nat_lt rule (length b.rules)) (case_count (rule_at b rule) (row_at b row)) 0 (and_from _ _ (lt-ltb row (length b.rows) h) (lt-ltb rule (length b.rules) k))) w.1,
           record { there = record { row_in = h; rule_in = k; number_in = w.1 }; not_idle = w.2; stands = w.3 },
@@ -119,7 +105,7 @@ module _ (b : AtomsBook) where
     cases_within : (row rule : ℕ) → CasesAllowed ((atoms_meaning b).cases row rule)
     cases_within row rule =
         cond_both {A = ℕ} (nat_lt row (length b.rows) && nat_lt rule (length b.rules)) (case_count (rule_at b rule) (row_at b row)) 0 CasesAllowed
-        (λ e. let there = and_parts (nat_lt row (length b.rows)) (nat_lt rule (length b.rules)) e in few (rule_at b rule) (row_at b row) (rule_within rule (ltb-true rule (length b.rules) there.1)) (row_within row (ltb-true row (length b.rows) there.0)))
+        (λ e. let there = and_parts (nat_lt row (length b.rows)) (nat_lt rule (length b.rules)) e in few (rule_at b rule) (row_at b row) (rule_in_range b range rule (ltb-true rule (length b.rules) there.1)) (row_in_range b range row (ltb-true row (length b.rows) there.0)))
         (λ _. omega arith)
 
     pub atoms_duties : Duties (atoms_meaning b)

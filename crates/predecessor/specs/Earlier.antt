@@ -4,7 +4,8 @@ use Rattle.literals.specs.declared.Fact.{Fact}
 use Rattle.literals.specs.declared.Fact.TheVariants.{Unary, Binary, From, Into}
 use Rattle.literals.specs.declared.Literal.{Literal}
 use Rattle.literals.specs.State.{chosen}
-use Rattle.literals.specs.Follow.{denial, any, all, follows, contradictory}
+use Rattle.std.specs.List.{list_any, list_all}
+use Rattle.literals.specs.Follow.{denial, follows, contradictory}
 use Rattle.atoms.specs.Pattern.{Pattern}
 use Rattle.atoms.specs.Fire.{Transition}
 use Rattle.predecessor.specs.Proper.{digits, proper}
@@ -28,7 +29,7 @@ loosens (Into c y) (Into b x) = false
 
 -- Some denial of an effect may take the last pair of a fact.
 abbrev pub thins : List Literal → Fact → Bool
-thins effect f = any (λ k. not k.affirmed && loosens k.fact f) effect
+thins effect f = list_any (λ k. not k.affirmed && loosens k.fact f) effect
 
 -- An effect loosens a denial.
 abbrev pub loosened : List Literal → Literal → Bool
@@ -60,7 +61,7 @@ module _ (rule : Transition) (row : Pattern) where
 
   -- A naming of the rule's variables is ruled out if its new variables are not taken in order, or the effect is contradictory or makes a literal of the row false.
   abbrev pub ruled_out : List ℕ → Bool
-  ruled_out names = not (proper row.variables names) || (contradictory (chosen names rule.effect) || any (made_false (chosen names rule.effect)) row.literals)
+  ruled_out names = not (proper row.variables names) || (contradictory (chosen names rule.effect) || list_any (made_false (chosen names rule.effect)) row.literals)
 
   -- What held before: the rule's condition, and what stays of the row.
   abbrev pub literals_before : List ℕ → List Literal
@@ -70,27 +71,34 @@ module _ (rule : Transition) (row : Pattern) where
   abbrev pub effect_in_case : ℕ → List Literal
   effect_in_case n = chosen (renaming n) rule.effect
 
-  -- The earlier pattern of a case.
-  abbrev pub earlier : ℕ → Pattern
-  earlier n = record { variables = case_variables; literals = literals_before (renaming n) }
+  -- The earlier pattern under a naming.
+  abbrev pub pattern_before : List ℕ → Pattern
+  pattern_before names = record { variables = case_variables; literals = literals_before names }
 
-  -- A case is idle if its naming is ruled out, or its earlier pattern is contradictory.
+  -- A naming is idle if it is ruled out, or its earlier pattern is contradictory.
+  abbrev pub idle_under : List ℕ → Bool
+  idle_under names = ruled_out names || contradictory (literals_before names)
+
+  -- The earlier pattern of a case, and whether the case is idle: those of its naming.
+  abbrev pub earlier : ℕ → Pattern
+  earlier n = pattern_before (renaming n)
+
   abbrev pub idle : ℕ → Bool
-  idle n = ruled_out (renaming n) || contradictory (earlier n).literals
+  idle n = idle_under (renaming n)
 
 -- A set of literals covers a row under a matching of its variables: each literal of the row follows from it.
 abbrev pub covers : List Literal → List ℕ → Pattern → Bool
-covers ls matching row = all (follows ls) (chosen matching row.literals)
+covers ls matching row = list_all (follows ls) (chosen matching row.literals)
 
 -- The same with every variable kept.
 abbrev pub covers_itself : List Literal → Pattern → Bool
-covers_itself ls row = all (follows ls) row.literals
+covers_itself ls row = list_all (follows ls) row.literals
 
 -- A list of numbers has one of them twice.
 abbrev pub repeats : List ℕ → Bool
 repeats [] = false
-repeats (x ∷ xs) = any (nat_eq x) xs || repeats xs
+repeats (x ∷ xs) = list_any (nat_eq x) xs || repeats xs
 
 -- A matching gives each variable of a row a different number below n.
 abbrev pub well_formed : Pattern → ℕ → List ℕ → Bool
-well_formed row n matching = length matching == row.variables && (all (λ x. nat_lt x n) matching && not (repeats matching))
+well_formed row n matching = length matching == row.variables && (list_all (λ x. nat_lt x n) matching && not (repeats matching))

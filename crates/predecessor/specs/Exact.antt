@@ -3,7 +3,7 @@ use Rattle.std.specs.Prelude.{◌≡◌, ℕ, Bool, true, false, not, ◌||◌, 
 use Rattle.literals.specs.declared.Fact.TheVariants.{Binary, From}
 use Rattle.literals.specs.declared.Literal.{Literal}
 use Rattle.literals.specs.State.{State}
-use Rattle.literals.specs.Follow.{all}
+use Rattle.std.specs.List.{list_all}
 use Rattle.pattern.specs.declared.Case.{Case}
 use Rattle.pattern.specs.Meaning.{to}
 use Rattle.atoms.specs.Pattern.{Pattern, StandsIn}
@@ -19,7 +19,7 @@ settles effect l = made_true effect l || not (thins effect l.fact)
 module _ (rule : Transition) (row : Pattern) where
   -- The case's effect settles every literal of the row.
   abbrev pub settled : ℕ → Bool
-  settled n = all (settles (effect_in_case rule row n)) row.literals
+  settled n = list_all (settles (effect_in_case rule row n)) row.literals
 
   -- From every state where the case's earlier pattern stands the rule leads, under some choice, to a state where the row stands.
   abbrev pub Exact : ℕ → Type 0

@@ -1,8 +1,10 @@
 -- What an effect of objects makes of literals: what held before, what holds after.
-use Rattle.std.specs.Prelude.{◌≡◌, ℕ, Bool, true, false, not, ◌&&◌, ◌||◌, ◌⊎◌, List, ◌==◌, ◌≢◌, refl}
-use Rattle.std.proofs.Common.{sym, inl, inr}
+use Rattle.std.specs.Prelude.{◌≡◌, ℕ, Bool, true, false, not, ◌&&◌, ◌||◌, ◌⊎◌, List, ◌≢◌, refl}
+use Rattle.std.proofs.Common.{inl, inr}
 use Rattle.std.specs.List.{AllByRecursion}
-use Rattle.std.proofs.lemmas.Bool.{and_parts, and_from, or_cases, or_left, or_right, not-true, not_from_false, both_ways, eqb-true, eq-eqb, false≢true}
+use Rattle.std.proofs.lemmas.Bool.{false≢true}
+use Rattle.std.proofs.lemmas.Grind.{common_steps}
+use Rattle.std.proofs.Common.{arith}
 use Rattle.literals.specs.declared.Fact.{Fact}
 use Rattle.literals.specs.declared.Fact.TheVariants.{Unary, Binary, From, Into}
 use Rattle.literals.specs.declared.Literal.{Literal}
@@ -18,24 +20,12 @@ use Rattle.predecessor.specs.Earlier.{loosens, thins, loosened, made_true, made_
 abbrev lit : Fact → Bool → Literal
 lit f b = record { fact = f; affirmed = b }
 
--- an atom that an effect leaves, by whether it was there and what the effect says of it
-left : (before gained lost : Bool) → before ≡ true → lost ≡ false → ((before || gained) && not lost) ≡ true
-left before gained lost h k = and_from (before || gained) (not lost) (or_left before gained h) (not_from_false lost k)
-
+-- an atom that an effect brings, or leaves, by whether it was there and what the effect says of it
 come : (before gained lost : Bool) → gained ≡ true → lost ≡ false → ((before || gained) && not lost) ≡ true
-come before gained lost h k = and_from (before || gained) (not lost) (or_right before gained h) (not_from_false lost k)
-
-was : (before gained lost : Bool) → ((before || gained) && not lost) ≡ true → (before ≡ true) ⊎ (gained ≡ true)
-was before gained lost e = or_cases before gained (and_parts (before || gained) (not lost) e).0
+come before gained lost h k = grind (arith, common_steps)
 
 not_lost : (before gained lost : Bool) → ((before || gained) && not lost) ≡ true → lost ≢ true
-not_lost before gained lost e h = both_ways lost (not-true lost (and_parts (before || gained) (not lost) e).1) h
-
-same : (a : ℕ) → (a == a) ≡ true
-same a = eq-eqb a a refl
-
-turned : (a b : ℕ) → (a == b) ≡ true → (b == a) ≡ true
-turned a b e = eq-eqb b a (sym (eqb-true a b e))
+not_lost before gained lost e h = grind (arith, common_steps)
 
 module _ (b x z : ℕ) where
   -- a denial from which that of b(x, z) follows
@@ -44,22 +34,16 @@ module _ (b x z : ℕ) where
       × ((by_signs s false (implies g (Into b z)) (implies (Into b z) g) ≡ true) ⊎ ((not s && loosens g (Into b z)) ≡ true))
   one_gone g true e = absurd (false≢true e)
   one_gone (Unary c y) false e = absurd (false≢true e)
-  one_gone (Binary c y w) false e =
-      let p = and_parts (b == c) (x == y && z == w) e in
-      let q = and_parts (x == y) (z == w) p.1 in
-      (inr (and_from (c == b) (y == x) (turned b c p.0) (turned x y q.0)), inr (and_from (c == b) (w == z) (turned b c p.0) (turned z w q.1)))
-  one_gone (From c y) false e = (inl e, inr (turned b c (and_parts (b == c) (x == y) e).0))
-  one_gone (Into c y) false e = (inr (turned b c (and_parts (b == c) (z == y) e).0), inl e)
+  one_gone (Binary c y w) false e = (inr (grind (arith, common_steps)), inr (grind (arith, common_steps)))
+  one_gone (From c y) false e = (inl e, inr (grind (arith, common_steps)))
+  one_gone (Into c y) false e = (inr (grind (arith, common_steps)), inl e)
 
   -- an affirmed fact from which b(x, z) follows
   one_new : (g : Fact) (s : Bool) → by_signs s true (implies g (Binary b x z)) (implies (Binary b x z) g) ≡ true
       → (by_signs s true (implies g (From b x)) (implies (From b x) g) ≡ true) × (by_signs s true (implies g (Into b z)) (implies (Into b z) g) ≡ true)
   one_new g false e = absurd (false≢true e)
   one_new (Unary c y) true e = absurd (false≢true e)
-  one_new (Binary c y w) true e =
-      let p = and_parts (c == b) (y == x && w == z) e in
-      let q = and_parts (y == x) (w == z) p.1 in
-      (and_from (c == b) (y == x) p.0 q.0, and_from (c == b) (w == z) p.0 q.1)
+  one_new (Binary c y w) true e = grind (arith, common_steps)
   one_new (From c y) true e = absurd (false≢true e)
   one_new (Into c y) true e = absurd (false≢true e)
 
@@ -81,10 +65,10 @@ module _ (b x z : ℕ) where
 module _ (effect : List Literal) (s : State) where
   -- what was there, of what is there after
   before : (g : Fact) (t : Bool) → remains effect g t ≡ true → follows effect (lit g true) ≡ false → t ≡ true
-  before g t e h = elim (was t (follows effect (lit g true)) (follows effect (lit g false)) e) [ inl w ↦ w | inr w ↦ absurd (both_ways (follows effect (lit g true)) h w) ]
+  before g t e h = grind (arith, common_steps)
 
   stays : (g : Fact) (t : Bool) → t ≡ true → follows effect (lit g false) ≡ false → remains effect g t ≡ true
-  stays g t e h = left t (follows effect (lit g true)) (follows effect (lit g false)) e h
+  stays g t e h = rw (e, h)
 
   -- a pair that was there stays, one that is there was there: by what the effect says of its first object, or of its second
   stays_from : (b x z : ℕ) → s.binary b x z ≡ true → follows effect (lit (From b x) false) ≡ false → thins effect (From b x) ≡ false → (after effect s).binary b x z ≡ true
@@ -129,14 +113,14 @@ module _ (effect : List Literal) (s : State) where
 
   -- what a literal of the effect that is not denied by it says of the state after
   brought : (f : Fact) (b : Bool) → (b ≡ true → Effective f) → ((l : Literal) → yields (lit f b) l ≡ true → follows effect l ≡ true) → follows effect (lit f (not b)) ≡ false → Said b (TrueIn (after effect s) f)
-  brought (Unary a x) true h c n = come (s.unary a x) _ _ (c (lit (Unary a x) true) (and_from (a == a) (x == x) (same a) (same x))) n
-  brought (Binary b x y) true h c n = come (s.binary b x y) _ _ (c (lit (Binary b x y) true) (and_from (b == b) (x == x && y == y) (same b) (and_from (x == x) (y == y) (same x) (same y)))) n
+  brought (Unary a x) true h c n = come (s.unary a x) _ _ (c (lit (Unary a x) true) (grind (arith, common_steps))) n
+  brought (Binary b x y) true h c n = come (s.binary b x y) _ _ (c (lit (Binary b x y) true) (grind (arith, common_steps))) n
   brought (From b x) true h c n = absurd (h refl)
   brought (Into b x) true h c n = absurd (h refl)
-  brought (Unary a x) false h c n = λ e. not_lost (s.unary a x) _ _ e (c (lit (Unary a x) false) (and_from (a == a) (x == x) (same a) (same x)))
-  brought (Binary b x y) false h c n = λ e. not_lost (s.binary b x y) _ _ e (c (lit (Binary b x y) false) (and_from (b == b) (x == x && y == y) (same b) (and_from (x == x) (y == y) (same x) (same y))))
-  brought (From b x) false h c n = λ e. not_lost (s.binary b x e.0) _ _ e.1 (c (lit (Binary b x e.0) false) (and_from (b == b) (x == x) (same b) (same x)))
-  brought (Into b x) false h c n = λ e. not_lost (s.binary b e.0 x) _ _ e.1 (c (lit (Binary b e.0 x) false) (and_from (b == b) (x == x) (same b) (same x)))
+  brought (Unary a x) false h c n = λ e. not_lost (s.unary a x) _ _ e (c (lit (Unary a x) false) (grind (arith, common_steps)))
+  brought (Binary b x y) false h c n = λ e. not_lost (s.binary b x y) _ _ e (c (lit (Binary b x y) false) (grind (arith, common_steps)))
+  brought (From b x) false h c n = λ e. not_lost (s.binary b x e.0) _ _ e.1 (c (lit (Binary b x e.0) false) (grind (arith, common_steps)))
+  brought (Into b x) false h c n = λ e. not_lost (s.binary b e.0 x) _ _ e.1 (c (lit (Binary b e.0 x) false) (grind (arith, common_steps)))
 
   module _ (effective : AllByRecursion EffectIn effect) (fair : contradictory effect ≡ false) where
     -- What a fair effect says holds after it.

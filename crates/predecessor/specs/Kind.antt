@@ -10,11 +10,15 @@ use Rattle.literals.specs.State.{State}
 use Rattle.atoms.specs.Pattern.{Pattern, StandsIn}
 use Rattle.atoms.specs.Fire.{Transition}
 use Rattle.atoms.specs.Book.{AtomsBook, just, Held, ChoiceHeld, rule_at, row_at, NextOf, StandsOf}
-use Rattle.predecessor.specs.Earlier.{case_count, earlier, idle, covers, covers_itself, well_formed}
+use Rattle.predecessor.specs.Earlier.{case_count, renaming, literals_before, idle_under, earlier, idle, covers, covers_itself, well_formed}
 
--- The sort of a case of a rule and a row: idle, or its earlier pattern covers its own row, or it is open.
+-- The sort of a naming of the rule's variables: idle, or its earlier pattern covers its own row, or it is open.
+abbrev pub naming_sort : Transition → Pattern → List ℕ → Sort
+naming_sort rule row names = cond (idle_under rule row names) Idle (cond (covers_itself (literals_before rule row names) row) Own Open)
+
+-- The sort of a case of a rule and a row: that of its naming.
 abbrev pub case_sort : Transition → Pattern → ℕ → Sort
-case_sort rule row n = cond (idle rule row n) Idle (cond (covers_itself (earlier rule row n).literals row) Own Open)
+case_sort rule row n = naming_sort rule row (renaming rule row n)
 
 -- What a matching of a named row says of an earlier pattern.
 abbrev pub pattern_covering : Pattern → Pattern → List ℕ → Covering

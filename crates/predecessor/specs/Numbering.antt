@@ -24,7 +24,7 @@ number_below base (d ∷ ds) h = omega (arith, pow-suc base (length ds), mul-add
 
 pub length_digits : (base k n : ℕ) → length (digits base k n) ≡ k
 length_digits base zero n = refl
-length_digits base (suc k) n = ap suc (length_digits base k (n / base))
+length_digits base (suc k) n = grind (arith, length_digits base k (n / base))
 
 pub digits_below : (base k n : ℕ) → k ≤ base → AllByRecursion (λ d. d < base) (digits base k n)
 digits_below base zero n h = tt

@@ -1,8 +1,9 @@
 -- The model holds the opening state of a book whose atoms are in range.
-use Rattle.std.specs.Prelude.{◌≡◌, ℕ, ◌<◌, true, false, not, ◌&&◌, List, map, ◌==◌, refl}
+use Rattle.std.specs.Prelude.{◌≡◌, ℕ, ◌<◌, true, false, not, ◌&&◌, List, map, refl}
 use Rattle.std.proofs.Common.{sym, ◌∙◌, arith}
 use Rattle.std.specs.List.{AllByRecursion}
-use Rattle.std.proofs.lemmas.Bool.{and_parts, eqb-true, false≢true}
+use Rattle.std.proofs.lemmas.Bool.{and_parts, false≢true}
+use Rattle.std.proofs.lemmas.Grind.{common_steps}
 use Rattle.literals.specs.declared.Fact.{Fact}
 use Rattle.literals.specs.declared.Fact.TheVariants.{Unary, Binary}
 use Rattle.literals.specs.declared.Literal.{Literal}
@@ -22,15 +23,12 @@ given atoms f h e =
     (sym (any_map (λ x. yields (affirmed x) l) (λ k. yields k l) affirmed atoms (all_of (λ x. yields (affirmed x) l ≡ yields (affirmed x) l) (λ x. refl) atoms)) ∙ (and_parts (follows (map affirmed atoms) l) _ e).0) h
 
 unary_in : (x : Atom) (a d : ℕ) → yields (affirmed x) (record { fact = Unary a d; affirmed = true }) ≡ true → AtomIn x → (a < relation_count) × (d < object_count)
-unary_in (atom.Unary b e) a d t h = let p = and_parts (b == a) (e == d) t in (omega (arith, eqb-true b a p.0, h.0), omega (arith, eqb-true e d p.1, h.1))
+unary_in (atom.Unary b e) a d t h = grind (arith, common_steps)
 unary_in (atom.Binary b e f) a d t h = absurd (false≢true t)
 
 binary_in : (x : Atom) (b d e : ℕ) → yields (affirmed x) (record { fact = Binary b d e; affirmed = true }) ≡ true → AtomIn x → (b < relation_count) × (d < object_count) × (e < object_count)
 binary_in (atom.Unary c f) b d e t h = absurd (false≢true t)
-binary_in (atom.Binary c f g) b d e t h =
-    let p = and_parts (c == b) (f == d && g == e) t in
-    let q = and_parts (f == d) (g == e) p.1 in
-    (omega (arith, eqb-true c b p.0, h.0), omega (arith, eqb-true f d q.0, h.1), omega (arith, eqb-true g e q.1, h.2))
+binary_in (atom.Binary c f g) b d e t h = grind (arith, common_steps)
 
 pub just_held : (atoms : List Atom) → AllByRecursion AtomIn atoms → Held (just atoms)
 just_held atoms h = record {

@@ -1,13 +1,10 @@
 -- A placement of a row's variables and a choice of objects: which variable each chosen object is, old or new.
 use Rattle.std.specs.Prelude.{◌≡◌, ℕ, zero, suc, ◌+◌, ◌<◌, ◌≤◌, true, cond, ◌⊎◌, List, [], ◌∷◌, map, length, ◌==◌, ◌≢◌, nat_le, nat_lt, refl}
-use Rattle.std.proofs.Common.{sym, ap, ◌∙◌, inl, inr, arith}
+use Rattle.std.proofs.Common.{ap, ◌∙◌, inl, inr, arith}
 use Rattle.std.specs.List.{AllByRecursion}
 use Rattle.std.proofs.lemmas.Bool.{and_from, cond-true, cond-false, eq-eqb, ne_eqb, le-leb, lt-ltb, le-ltb, cases_eq, cases_lt}
 use Rattle.atoms.specs.Pattern.{Different}
 use Rattle.predecessor.specs.Proper.{proper}
-
-cons_same : {x y : ℕ} {xs ys : List ℕ} → x ≡ y → xs ≡ ys → x ∷ xs ≡ y ∷ ys
-cons_same p q = λ i. p i ∷ q i
 
 -- Which of the first n variables an object is, if any.
 found : (place : ℕ → ℕ) (n d : ℕ) → ((i : ℕ) × (i < n) × (place i ≡ d)) ⊎ ((i : ℕ) → i < n → place i ≢ d)
@@ -31,16 +28,7 @@ with_old : (place : ℕ → ℕ) (n d i : ℕ) → i < n → with place n d i �
 with_old place n d i h = cond-false {A = ℕ} (i == n) d (place i) (ne_eqb i n (omega arith))
 
 different_with : (place : ℕ → ℕ) (n d : ℕ) → Different n place → ((i : ℕ) → i < n → place i ≢ d) → Different (suc n) (with place n d)
-different_with place n d different new i j h k e = elim (cases_eq i n) [
-  | inl p ↦ elim (cases_eq j n) [
-    | inl q ↦ p ∙ sym q
-    | inr q ↦ absurd (new j (omega arith) (sym (with_old place n d j (omega arith)) ∙ sym e ∙ ap (with place n d) p ∙ with_new place n d))
-  ]
-  | inr p ↦ elim (cases_eq j n) [
-    | inl q ↦ absurd (new i (omega arith) (sym (with_old place n d i (omega arith)) ∙ e ∙ ap (with place n d) q ∙ with_new place n d))
-    | inr q ↦ different i j (omega arith) (omega arith) (sym (with_old place n d i (omega arith)) ∙ e ∙ with_old place n d j (omega arith))
-  ]
-]
+different_with place n d different new i j h k e = grind (arith, with_old place n d i, with_old place n d j, with_new place n d, different i j, new i, new j)
 
 -- A number above the objects of the first n variables.
 abbrev above : (ℕ → ℕ) → ℕ → ℕ
@@ -49,10 +37,7 @@ above place (suc n) = suc (place n + above place n)
 
 is_above : (place : ℕ → ℕ) (n i : ℕ) → i < n → place i < above place n
 is_above place zero i h = absurd (omega arith)
-is_above place (suc n) i h = elim (cases_lt i n) [
-  | inl l ↦ omega (arith, is_above place n i l)
-  | inr l ↦ let same : i ≡ n = omega arith in omega (arith, ap place same)
-]
+is_above place (suc n) i h = grind (arith, is_above place n i)
 
 -- The same placement of the first n variables, with objects for all others that nothing else has.
 abbrev filled : (ℕ → ℕ) → ℕ → ℕ → ℕ
@@ -65,16 +50,7 @@ filled_new : (place : ℕ → ℕ) (n i : ℕ) → n ≤ i → filled place n i 
 filled_new place n i h = cond-false {A = ℕ} (nat_lt i n) (place i) (above place n + i) (le-ltb i n h)
 
 different_filled : (place : ℕ → ℕ) (n total : ℕ) → Different n place → Different total (filled place n)
-different_filled place n total different i j _ _ e = elim (cases_lt i n) [
-  | inl p ↦ elim (cases_lt j n) [
-    | inl q ↦ different i j p q (sym (filled_old place n i p) ∙ e ∙ filled_old place n j q)
-    | inr q ↦ absurd (omega (arith, filled_old place n i p, filled_new place n j q, is_above place n i p))
-  ]
-  | inr p ↦ elim (cases_lt j n) [
-    | inl q ↦ absurd (omega (arith, filled_new place n i p, filled_old place n j q, is_above place n j q))
-    | inr q ↦ omega (arith, filled_new place n i p, filled_new place n j q)
-  ]
-]
+different_filled place n total different i j _ _ e = grind (arith, filled_old place n i, filled_old place n j, filled_new place n i, filled_new place n j, is_above place n i, is_above place n j, different i j)
 
 -- A choice in terms of variables: which variable each chosen object is, and a placement of them all that gives the objects back.
 -- The first n variables are placed before; an object that none of them has is the next new variable.
@@ -112,7 +88,7 @@ take n total old (d ∷ choice) room h = elim (found old n d) [
         each_below = (omega (arith, w.1), r.each_below);
         different = r.different;
         stays = r.stays;
-        given_back = cons_same (r.stays w.0 w.1 ∙ w.2) r.given_back;
+        given_back = cc (r.stays w.0 w.1, w.2, r.given_back);
       }
   | inr none ↦
       let r = take (suc n) total (with old n d) choice (omega arith) (different_with old n d h none) in
@@ -125,6 +101,6 @@ take n total old (d ∷ choice) room h = elim (found old n d) [
         each_below = (omega arith, r.each_below);
         different = r.different;
         stays = λ i l. r.stays i (omega arith) ∙ with_old old n d i l;
-        given_back = cons_same (r.stays n (omega arith) ∙ with_new old n d) r.given_back;
+        given_back = let same_place : r.place n ≡ with old n d n = r.stays n (omega arith) in cc (same_place, with_new old n d, r.given_back);
       }
 ]

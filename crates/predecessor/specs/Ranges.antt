@@ -1,5 +1,5 @@
--- What a renaming makes of the ranges of literals.
-use Rattle.std.specs.Prelude.{◌≡◌, ℕ, ◌<◌, ◌≤◌, List, map, length, slice_index}
+-- What a renaming makes of the ranges of literals, and what is read of a book in range.
+use Rattle.std.specs.Prelude.{◌≡◌, ℕ, ◌<◌, ◌≤◌, List, [], map, length, slice_index}
 use Rattle.std.proofs.Common.{arith}
 use Rattle.std.specs.List.{AllByRecursion}
 use Rattle.std.proofs.ByRecursion.{All-weaker, All-map, All-get_or}
@@ -7,7 +7,8 @@ use Rattle.literals.specs.declared.Fact.{Fact}
 use Rattle.literals.specs.declared.Fact.TheVariants.{Unary, Binary, From, Into}
 use Rattle.literals.specs.declared.Literal.{Literal}
 use Rattle.literals.specs.State.{fact_under, under, chosen}
-use Rattle.atoms.specs.Range.{FactIn, LiteralIn, Effective, EffectIn}
+use Rattle.atoms.specs.Book.{AtomsBook, rule_at, row_at}
+use Rattle.atoms.specs.Range.{FactIn, LiteralIn, Effective, EffectIn, RuleIn, RowIn, InRange}
 
 more_variables : (n k : ℕ) → n ≤ k → (f : Fact) → FactIn n f → FactIn k f
 more_variables n k h (Unary a x) p = (p.0, omega (arith, p.1))
@@ -40,3 +41,11 @@ effective_under p (Into b x) h = h
 -- An effect that affirms only atoms does so renamed.
 pub effect_in_under : (p : ℕ → ℕ) (ls : List Literal) → AllByRecursion EffectIn ls → AllByRecursion EffectIn (map (under p) ls)
 effect_in_under p ls h = All-map EffectIn (under p) ls (All-weaker EffectIn (λ l. EffectIn (under p l)) (λ l q e. effective_under p l.fact (q e)) ls h)
+
+-- What is read of a book in range is in range.
+module _ (b : AtomsBook) (range : InRange b) where
+  pub rule_in_range : (rule : ℕ) → rule < length b.rules → RuleIn (rule_at b rule)
+  rule_in_range rule h = All-get_or RuleIn b.rules rule (record { variables = 0; condition = []; effect = [] }) h range.each_rule_in
+
+  pub row_in_range : (row : ℕ) → row < length b.rows → RowIn (row_at b row)
+  row_in_range row h = All-get_or RowIn b.rows row (record { variables = 0; literals = [] }) h range.each_row_in

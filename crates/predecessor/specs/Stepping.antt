@@ -1,13 +1,13 @@
 -- Steps backwards: where a rule leads into a row, the earlier pattern of a case stands before.
 use Rattle.std.specs.Prelude.{◌≡◌, ℕ, ◌^◌, ◌<◌, Bool, true, false, not, ◌||◌, List, map, length, ◌≢◌, slice_index}
 use Rattle.std.proofs.Common.{sym, ap, subst, ◌∙◌, arith}
-use Rattle.std.specs.List.{AllByRecursion}
+use Rattle.std.specs.List.{AllByRecursion, list_any}
 use Rattle.std.proofs.lemmas.Bool.{not-true, not_from_true, or_parts, or_from}
 use Rattle.std.proofs.lemmas.List.{map-append, get_or-map}
 use Rattle.std.proofs.ByRecursion.{All-weaker, All-append, All-map, all_kept_by, kept_by_passes}
 use Rattle.literals.specs.declared.Literal.{Literal}
 use Rattle.literals.specs.State.{State, Holds, AllHold, under, chosen}
-use Rattle.literals.specs.Follow.{denial, any, contradictory}
+use Rattle.literals.specs.Follow.{denial, contradictory}
 use Rattle.literals.proofs.Failing.{fails, fails_so}
 use Rattle.literals.proofs.Listing.{none_passes, all_from_both, all_unmapped}
 use Rattle.literals.proofs.Following.{sound}
@@ -76,14 +76,14 @@ module _ (rule : Transition) (row : Pattern) (rule_in : RuleIn rule) (row_in : R
         stood : AllHold s (map (under place) before)
         stood = rw (map-append (under place) (chosen (renaming rule row n) rule.condition) (kept effect row.literals)) (All-append (Holds s) _ _ met (kept_held (case_variables rule row) place different effect (effect_within n) s row.literals row_within stands))
 
-        none_false : any (made_false effect) row.literals ≡ false
+        none_false : list_any (made_false effect) row.literals ≡ false
         none_false = none_passes (made_false effect) row.literals (All-weaker (λ l. Holds (after (map (under place) effect) s) (under place l)) (λ l. made_false effect l ≢ true) (λ l h e. made_false_fails (map (under place) effect) s (affirms_atoms n place) fair (under place l) (follows_kept place effect (denial l) e) h) row.literals (all_unmapped (Holds (after (map (under place) effect) s)) (under place) row.literals stands))
 
         pub not_idle : idle rule row n ≡ false
         not_idle =
             or_from (ruled_out rule row (renaming rule row n)) (contradictory before)
             (or_from (not (proper row.variables (renaming rule row n))) _ (not_from_true _ in_order)
-            (or_from (contradictory effect) (any (made_false effect) row.literals) (fails _ _ (contradictory_kept place effect) fair) none_false))
+            (or_from (contradictory effect) (list_any (made_false effect) row.literals) (fails _ _ (contradictory_kept place effect) fair) none_false))
             (fails_so (contradictory before) (λ e. (sound (map (under place) before)).contradictory_nowhere s (contradictory_kept place before e) stood))
 
         pub pattern_stood : StandsIn (earlier rule row n) s

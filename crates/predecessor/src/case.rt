@@ -1,115 +1,62 @@
-ghost use Rattle.std.specs.Prelude.{◌≡◌, ◌+◌, ◌<◌, length, if◌then◌else◌};
-ghost use Rattle.pattern.specs.declared.Sort.TheVariants.{Idle, Own as OwnSort, Open as OpenSort};
-ghost use Rattle.literals.specs.Follow.{contradictory};
+ghost use Rattle.std.specs.Prelude.{◌≡◌};
 ghost use Rattle.atoms.specs.Range.{RuleIn, RowIn};
+ghost use Rattle.atoms.proofs.Ranged.{rule_one, row_one};
 ghost use Rattle.atoms.specs.Data.{transition_of, pattern_of};
-ghost use Rattle.predecessor.specs.Earlier.{case_count, ruled_out, literals_before, earlier as earlier-pattern, covers_itself};
-ghost use Rattle.predecessor.specs.Kind.{case_sort, pattern_covering};
-ghost use Rattle.predecessor.specs.Made.{literals_of};
+ghost use Rattle.predecessor.specs.Earlier.{case_variables, case_count, renaming};
 
-use crate::earlier::Earlier;
-use crate::effect::makes_false;
-use crate::matching::{all_follow, all_follow_under, well_formed};
-use crate::naming::{MAX_NAMES, proper, write_digits};
+use crate::naming::MAX_NAMES;
+use crate::step::StepBack;
+use arrayvec::ArrayVec;
 use atoms::{Row, Rule};
-use literals::{contradictory, contradictory_under};
-use pattern::{Covering, Sort};
 
-/// How many cases a rule and a row have.
-pub(crate) fn case_count(rule: &Rule, row: &Row) -> usize
-    requires rule_in { RuleIn (transition_of rule.now) }
-    requires row_in { RowIn (pattern_of row.now) }
-    ensures { result ≡ case_count (transition_of rule.now) (pattern_of row.now) }
-{
-    (row.variables as usize + rule.variables as usize).pow(rule.variables as u32)
+/// A rule that may lead into a row, both in range.
+#[derive(Clone, Copy)]
+pub(crate) struct RuleIntoRow<'a> {
+    pub(crate) rule: &'a Rule,
+    pub(crate) row: &'a Row,
+    ghost rule_in: { RuleIn (transition_of rule.now) } by { rule_one (transition_of rule.now) },
+    ghost row_in: { RowIn (pattern_of row.now) } by { row_one (pattern_of row.now) },
 }
 
-/// The literals of the earlier pattern, where the variables of the rule are those of the list.
-fn earlier_under(rule: &Rule, row: &Row, names: &[u8]) -> Earlier
-    requires rule_in { RuleIn (transition_of rule.now) }
-    requires row_in { RowIn (pattern_of row.now) }
-    ensures { literals_of result ≡ literals_before (transition_of rule.now) (pattern_of row.now) names.now }
-{
-    let mut earlier = Earlier::new();
-    earlier.push_chosen(&rule.condition, names);
-    earlier.push_kept(&row.literals, &rule.effect, names);
-    earlier
-}
+impl<'a> RuleIntoRow<'a> {
+    ghost use Rattle.predecessor.specs.System.{rule_of, row_of};
 
-/// Whether a case is idle by its naming or its effect alone.
-fn is_ruled_out(rule: &Rule, row: &Row, names: &[u8]) -> bool
-    requires { row.now.variables + length names.now < 256 }
-    ensures { result ≡ ruled_out (transition_of rule.now) (pattern_of row.now) names.now }
-{
-    !proper(row.variables, names)
-        || (contradictory_under(&rule.effect, names)
-            || makes_false(&rule.effect, names, &row.literals))
-}
-
-/// The sort of a case whose naming and effect do not make it idle, by its earlier pattern.
-fn sort_by(earlier: &Earlier, row: &Row) -> Sort
-    ensures { result ≡ (if contradictory (literals_of earlier.now) then Idle else (if covers_itself (literals_of earlier.now) (pattern_of row.now) then OwnSort else OpenSort)) }
-{
-    let literals = earlier.literals();
-    if contradictory(literals) {
-        Sort::Idle
-    } else if all_follow(literals, &row.literals) {
-        Sort::Own
-    } else {
-        Sort::Open
+    /// How many variables a case has: those of the row, and as many new ones as the rule could need.
+    pub(crate) fn variables(&self) -> u8
+        ensures { result ≡ case_variables (rule_of self.now) (row_of self.now) }
+    {
+        self.row.variables + self.rule.variables
     }
-}
 
-/// The sort of a case.
-pub(crate) fn sort(rule: &Rule, row: &Row, number: usize) -> Sort
-    requires rule_in { RuleIn (transition_of rule.now) }
-    requires row_in { RowIn (pattern_of row.now) }
-    ensures { result ≡ case_sort (transition_of rule.now) (pattern_of row.now) number }
-{
-    let mut names = [0; MAX_NAMES];
-    let names = &mut names[..rule.variables as usize];
-    write_digits(names, row.variables + rule.variables, number);
-    if is_ruled_out(rule, row, names) {
-        Sort::Idle
-    } else {
-        sort_by(&earlier_under(rule, row, names), row)
+    /// How many cases there are.
+    pub(crate) fn case_count(&self) -> usize
+        ensures { result ≡ case_count (rule_of self.now) (row_of self.now) }
+    {
+        usize::from(self.variables()).pow(u32::from(self.rule.variables))
     }
-}
 
-/// The literals of the earlier pattern of a case.
-pub(crate) fn earlier(rule: &Rule, row: &Row, number: usize) -> Earlier
-    requires rule_in { RuleIn (transition_of rule.now) }
-    requires row_in { RowIn (pattern_of row.now) }
-    ensures { literals_of result ≡ (earlier-pattern (transition_of rule.now) (pattern_of row.now) number).literals }
-{
-    let mut names = [0; MAX_NAMES];
-    let names = &mut names[..rule.variables as usize];
-    write_digits(names, row.variables + rule.variables, number);
-    earlier_under(rule, row, names)
-}
-
-/// What a matching of a named row says of a case.
-pub(crate) fn covering(
-    rule: &Rule,
-    row: &Row,
-    number: usize,
-    named: &Row,
-    matching: &[u8],
-) -> Covering
-    requires rule_in { RuleIn (transition_of rule.now) }
-    requires row_in { RowIn (pattern_of row.now) }
-    ensures { result ≡ pattern_covering (earlier-pattern (transition_of rule.now) (pattern_of row.now) number) (pattern_of named.now) matching.now }
-{
-    if !well_formed(named, row.variables + rule.variables, matching) {
-        return Covering::Malformed;
+    /// The step backwards in the case with this number.
+    pub(crate) fn step_back(&self, number: usize) -> StepBack<'a>
+        ensures pair { result.pair ≡ self.now }
+        ensures names { result.names.items ≡ renaming (rule_of self.now) (row_of self.now) number }
+    {
+        StepBack {
+            pair: *self,
+            names: self.names(number),
+        }
     }
-    if all_follow_under(
-        earlier(rule, row, number).literals(),
-        matching,
-        &named.literals,
-    ) {
-        Covering::Covers
-    } else {
-        Covering::DoesNotCover
+
+    /// Which variable each variable of the rule is in a case: the digits of its number, lowest first.
+    fn names(&self, number: usize) -> ArrayVec<u8, MAX_NAMES>
+        ensures { result.items ≡ renaming (rule_of self.now) (row_of self.now) number }
+    {
+        let base = usize::from(self.variables());
+        let mut names = ArrayVec::new();
+        let mut rest = number;
+        for _ in 0..self.rule.variables {
+            names.push((rest % base) as u8);
+            rest /= base;
+        }
+        names
     }
 }

@@ -1,14 +1,23 @@
-ghost use Rattle.std.specs.Prelude.{◌≤◌};
+ghost use Rattle.std.specs.Prelude.{◌≡◌};
+ghost use Rattle.predecessor.specs.Made.{literals_of};
 
+use arrayvec::ArrayVec;
 use literals::Literal;
 
 /// The most literals of an earlier pattern: as many as a rule's condition and a row can have.
 pub const MAX_LITERALS: usize = 28;
 
 /// The literals of an earlier pattern.
-#[derive(Clone, Copy)]
+#[derive(Clone, Drop)]
 pub struct Earlier {
-    pub(super) literals: [Literal; MAX_LITERALS],
-    pub(super) count: usize,
-    ghost within: { count ≤ 28 },
+    pub(super) literals: ArrayVec<Literal, MAX_LITERALS>,
+}
+
+impl Earlier {
+    /// The literals.
+    pub fn literals(&self) -> &[Literal]
+        ensures { result.now ≡ literals_of self.now }
+    {
+        &self.literals
+    }
 }

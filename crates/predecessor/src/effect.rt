@@ -1,9 +1,9 @@
 ghost use Rattle.std.specs.Prelude.{◌≡◌, not, ◌&&◌, ◌||◌};
-ghost use Rattle.literals.specs.State.{chosen};
-ghost use Rattle.literals.specs.Follow.{any};
+ghost use Rattle.std.specs.List.{list_any};
+ghost use Rattle.literals.specs.Renamed.{renamed};
 ghost use Rattle.predecessor.specs.Earlier.{loosens, thins, loosened, made_true, made_false};
 
-use literals::{Fact, Literal, follows_under};
+use literals::{Fact, Literal, Renamed};
 
 /// Whether the denial of one fact may take the last pair of another.
 fn loosens(denied: Fact, fact: Fact) -> bool
@@ -39,34 +39,29 @@ fn takes(literal: Literal, fact: Fact) -> bool
     !literal.affirmed && loosens(literal.fact, fact)
 }
 
-/// Whether some denial of an effect, renamed by the list, may take the last pair of a fact.
-fn thins(effect: &[Literal], names: &[u8], fact: Fact) -> bool
-    ensures { result ≡ thins (chosen names.now effect.now) fact }
+/// Whether some denial of an effect may take the last pair of a fact.
+fn thins(effect: &Renamed<'_>, fact: Fact) -> bool
+    ensures { result ≡ thins (renamed effect.now) fact }
 {
-    for literal in effect {
-        if takes(literal.under(names), fact) {
-            return true;
-        }
-    }
-    false
+    effect
+        .literals
+        .iter()
+        .map(|literal| literal.under(effect.names))
+        .any(|literal| takes(literal, fact))
 }
 
 /// Whether a literal stays in the earlier pattern: the effect neither makes it true nor loosens it.
-pub(crate) fn stays(effect: &[Literal], names: &[u8], literal: Literal) -> bool
-    ensures { result ≡ not (made_true (chosen names.now effect.now) literal || loosened (chosen names.now effect.now) literal) }
+pub(crate) fn stays(effect: &Renamed<'_>, literal: Literal) -> bool
+    ensures { result ≡ not (made_true (renamed effect.now) literal || loosened (renamed effect.now) literal) }
 {
-    !(follows_under(effect, names, literal)
-        || !literal.affirmed && thins(effect, names, literal.fact))
+    !(effect.follows(literal) || !literal.affirmed && thins(effect, literal.fact))
 }
 
 /// Whether an effect makes one of some literals false.
-pub(crate) fn makes_false(effect: &[Literal], names: &[u8], literals: &[Literal]) -> bool
-    ensures { result ≡ any (made_false (chosen names.now effect.now)) literals.now }
+pub(crate) fn makes_false(effect: &Renamed<'_>, literals: &[Literal]) -> bool
+    ensures { result ≡ list_any (made_false (renamed effect.now)) literals.now }
 {
-    for literal in literals {
-        if follows_under(effect, names, literal.denial()) {
-            return true;
-        }
-    }
-    false
+    literals
+        .iter()
+        .any(|literal| effect.follows(literal.denial()))
 }

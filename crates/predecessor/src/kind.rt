@@ -1,18 +1,19 @@
-ghost use Rattle.std.specs.Prelude.{◌≡◌, MatchOption};
+ghost use Rattle.std.specs.Prelude.{◌≡◌, ◌<◌, length, MatchOption};
 ghost use Rattle.literals.specs.State.{State};
 ghost use Rattle.atoms.specs.Book.{AtomsBook};
-ghost use Rattle.atoms.specs.Data.{transition_of, pattern_of, book_of};
+ghost use Rattle.atoms.specs.Data.{book_of};
 ghost use Rattle.predecessor.specs.Kind.{Exists, earlier_of, atoms_meaning};
 ghost use Rattle.predecessor.specs.Exact.{ExactOf};
 ghost use Rattle.predecessor.specs.Made.{literals_of};
-ghost use Rattle.predecessor.specs.System.{Found, system_book, system_state, MadeSystem};
+ghost use Rattle.predecessor.specs.System.{ReadAt, Found, system_book, system_state, MadeSystem};
 ghost use Rattle.atoms.proofs.Ranged.{in_range};
 ghost use Rattle.predecessor.specs.Duty.{atoms_duties};
 
-use crate::case::{case_count, covering, earlier, sort};
+use crate::case::RuleIntoRow;
 use crate::earlier::Earlier;
+use crate::step::StepBack;
 use crate::system::AtomSystem;
-use atoms::{Atoms, Book, BookRefusal, Row, Rule};
+use atoms::{Atoms, Book, BookRefusal};
 use pattern::{Case, Covering, FireRefusal, LookRefusal, PatternKind, Sort};
 
 impl AtomSystem {
@@ -30,21 +31,25 @@ impl AtomSystem {
         ensures value { MatchOption result (Exists (system_book self.now) case → ⊥) (λ e. Exists (system_book self.now) case × (literals_of e ≡ (earlier_of (system_book self.now) case).literals)) }
         ensures exact { ExactOf (system_book self.now) case }
     {
-        let (rule, row) = self.case(case)?;
-        Some(earlier(rule, row, case.number))
+        Some(self.step_back(case)?.earlier())
     }
 
-    /// The rule and the row of a case, where there is such a case.
-    fn case(&self, case: Case) -> Option<(&Rule, &Row)>
-        ensures { MatchOption result (Exists (system_book self.now) case → ⊥) (λ x. Found (system_book self.now) case (transition_of x.0.now) (pattern_of x.1.now)) }
+    /// The rule and the row with these numbers.
+    fn rule_into_row(&self, rule: usize, row: usize) -> Option<RuleIntoRow<'_>>
+        ensures { MatchOption result (rule < length (system_book self.now).rules × row < length (system_book self.now).rows → ⊥) (ReadAt (system_book self.now) rule row) }
     {
-        let rule = self.atoms.rule(case.rule)?;
-        let row = self.atoms.row(case.row)?;
-        if case.number < case_count(rule, row) {
-            Some((rule, row))
-        } else {
-            None
-        }
+        let rule = self.atoms.rule(rule)?;
+        let row = self.atoms.row(row)?;
+        Some(RuleIntoRow { rule, row })
+    }
+
+    /// The step backwards of a case, where there is such a case.
+    fn step_back(&self, case: Case) -> Option<StepBack<'_>>
+        ensures { MatchOption result (Exists (system_book self.now) case → ⊥) (Found (system_book self.now) case) }
+    {
+        self.rule_into_row(case.rule, case.row)
+            .filter(|pair| case.number < pair.case_count())
+            .map(|pair| pair.step_back(case.number))
     }
 }
 
@@ -70,31 +75,25 @@ impl PatternKind for AtomSystem {
     }
 
     fn cases(&self, row: usize, rule: usize) -> usize {
-        let (Some(row), Some(rule)) = (self.atoms.row(row), self.atoms.rule(rule)) else {
-            return 0;
-        };
-        case_count(rule, row)
+        self.rule_into_row(rule, row)
+            .map_or(0, |pair| pair.case_count())
     }
 
     fn sort(&self, case: Case) -> Sort {
-        let Some((rule, row)) = self.case(case) else {
-            return Sort::Idle;
-        };
-        sort(rule, row, case.number)
+        self.step_back(case).map_or(Sort::Idle, |step| step.sort())
     }
 
     fn matching_length(&self, row: usize) -> usize {
-        match self.atoms.row(row) {
-            Some(row) => row.variables as usize,
-            None => 0,
-        }
+        self.atoms
+            .row(row)
+            .map_or(0, |row| usize::from(row.variables))
     }
 
     fn covering(&self, case: Case, named: usize, matching: &[u8]) -> Covering {
-        let (Some((rule, row)), Some(named)) = (self.case(case), self.atoms.row(named)) else {
-            return Covering::Malformed;
-        };
-        covering(rule, row, case.number, named, matching)
+        match (self.step_back(case), self.atoms.row(named)) {
+            (Some(step), Some(named)) => step.covering(named, matching),
+            _ => Covering::Malformed,
+        }
     }
 
     fn stands_in_opening(&self, row: usize) -> bool {

@@ -8,8 +8,8 @@ pub mod exactness;
 pub mod kind;
 pub mod matching;
 pub mod naming;
+pub mod step;
 pub mod system;
-pub mod writing;
 
 pub use earlier::Earlier;
 pub use system::AtomSystem;

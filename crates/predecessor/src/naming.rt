@@ -1,21 +1,8 @@
-ghost use Rattle.std.specs.Prelude.{◌≡◌, ◌+◌, ◌<◌, ◌≤◌, length, Decides};
-ghost use Rattle.predecessor.specs.Proper.{digits, Proper, proper};
+ghost use Rattle.std.specs.Prelude.{◌≡◌, ◌+◌, ◌<◌, length, Decides};
+ghost use Rattle.predecessor.specs.Proper.{Proper, proper};
 
 /// The most variables of a rule, and so of names for them.
 pub const MAX_NAMES: usize = 4;
-
-/// Writes the digits of a case number in a base, lowest first: which variable each variable of the
-/// rule is.
-pub(crate) fn write_digits(names: &mut [u8], base: u8, number: usize)
-    requires { length names.old ≤ base }
-    ensures { names.new ≡ digits base (length names.old) number }
-{
-    let mut rest = number;
-    for name in names.iter_mut() {
-        *name = (rest % base as usize) as u8;
-        rest /= base as usize;
-    }
-}
 
 /// Whether the new variables, from `first` on, are taken in order.
 pub(crate) fn proper(first: u8, names: &[u8]) -> bool

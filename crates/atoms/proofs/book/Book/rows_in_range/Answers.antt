@@ -1,26 +1,15 @@
-use Rattle.std.proofs.Common.{vec_items, sym, refl, subst}
-use Rattle.std.proofs.lemmas.Bool.{false≢true}
-use Rattle.std.proofs.ByRecursion.{All-map}
-use Rattle.std.proofs.lemmas.Bool.Decides.{not_from_Decides}
-use Rattle.literals.proofs.Listing.{all_unmapped}
+use Rattle.std.proofs.Common.{rules, vec_items, ◌∙◌}
+use Rattle.std.proofs.lemmas.Iterator.{YieldsList-from_slice, cases_from_all}
+use borrow.Author.Tests.{tests}
+use Rattle.atoms.specs.declared.book.Row.{Row}
 use Rattle.atoms.specs.Range.{RowIn}
 use Rattle.atoms.specs.Data.{pattern_of}
-use Rattle.atoms.proofs.Each.{each_more, each_all, each_not}
+use Rattle.atoms.proofs.Deciding.{mapped_decides, all_decided}
 use Rattle.atoms.proofs.book.Book.rows_in_range.Goals as goal
 
-pub loop-row-preserved : goal.loop-row-preserved
-loop-row-preserved c = each_more (λ x. RowIn (pattern_of x)) c.deref-row-items.result.now (vec_items c.args.self.now.rows) c.deref-row-items.ensures.value c.loop-row.row-index c.row-item.result c.loop-row-test.true c.loop-row.invariant (subst (λ x. RowIn (pattern_of x)) c.row-item.is (c.in_range.ensures.0 c.if-not-in_range.false))
-
-pub returns-then-not-in_range : goal.returns-then-not-in_range
-returns-then-not-in_range c = (
-  λ e. absurd (false≢true e),
-  λ all. absurd (each_not (λ x. RowIn (pattern_of x)) c.deref-row-items.result.now (vec_items c.args.self.now.rows) c.deref-row-items.ensures.value c.loop-row.row-index c.row-item.result c.loop-row-test.true
-      (λ x. not_from_Decides c.in_range.result c.in_range.ensures c.if-not-in_range.true (subst (λ x. RowIn (pattern_of x)) (sym c.row-item.is) x))
-      (all_unmapped RowIn pattern_of (vec_items c.args.self.now.rows) all)),
-)
-
 pub returns : goal.returns
-returns c = (
-  λ _. All-map RowIn pattern_of (vec_items c.args.self.now.rows) (each_all (λ x. RowIn (pattern_of x)) c.deref-row-items.result.now (vec_items c.args.self.now.rows) c.deref-row-items.ensures.value c.loop-row.row-index c.loop-row-test.false c.loop-row.invariant),
-  λ _. refl,
-)
+returns c =
+    let xs = vec_items c.args.self.now.rows in
+    let P : Row → Type 0 = λ x. RowIn (pattern_of x) in
+    mapped_decides RowIn pattern_of xs c.all.result
+    (all_decided P xs c.all.result (cases_from_all _ _ _ P (λ x. P x → ⊥) c.all.ensures.ran (YieldsList-from_slice xs (c.iter.ensures.rest ∙ c.deref.ensures.value)) (λ x q k. search (rules, tests)) (λ x q k. search (rules, tests))))

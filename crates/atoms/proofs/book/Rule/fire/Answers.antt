@@ -2,12 +2,13 @@ use Rattle.std.proofs.Common.{List, sym, ap, ◌∙◌, subst}
 use Rattle.std.specs.List.{AllByRecursion}
 use Rattle.std.proofs.lemmas.Result.{err_from_is_err_and}
 use Rattle.literals.specs.declared.Literal.{Literal}
-use Rattle.literals.specs.State.{chosen}
+use Rattle.atoms.specs.Book.{object_count}
+use Rattle.atoms.specs.Range.{LiteralIn}
 use Rattle.atoms.specs.Fire.{after}
 use Rattle.atoms.specs.Data.{transition_of}
-use Rattle.atoms.specs.Cells.{state_of, GainIn}
+use Rattle.atoms.specs.Cells.{state_of}
 use Rattle.atoms.proofs.Setting.{all_held}
-use Rattle.atoms.proofs.Firing.{effect_gains, refusing, firing}
+use Rattle.atoms.proofs.Firing.{effect_in, refusing, firing}
 use Rattle.atoms.proofs.book.Rule.fire.Goals as goal
 
 pub returns-in_err-check : goal.returns-in_err-check
@@ -17,11 +18,11 @@ returns-in_err-check c =
 
 pub change-requires : goal.change-requires
 change-requires c =
-    subst (λ (ls : List Literal). AllByRecursion GainIn (chosen c.args.choice.now ls)) (sym c.deref.ensures.value)
-    (effect_gains (transition_of c.args.self.now) c.args.choice.now c.requires c.in_ok-check.ensures.0)
+    subst (λ (ls : List Literal). AllByRecursion (LiteralIn object_count) ls) (sym c.effect_under.ensures)
+    (effect_in (transition_of c.args.self.now) c.args.choice.now c.requires c.in_ok-check.ensures.0)
 
 pub returns : goal.returns
 returns c =
     firing (transition_of c.args.self.now) (state_of c.args.cells.now) c.args.choice.now (state_of c.change.new.self) c.in_ok-check.ensures
-    (c.change.ensures ∙ ap (λ (ls : List Literal). after (chosen c.args.choice.now ls) (state_of c.args.cells.now)) c.deref.ensures.value)
+    (c.change.ensures ∙ ap (λ (ls : List Literal). after ls (state_of c.args.cells.now)) c.effect_under.ensures)
     (all_held c.change.new.self)

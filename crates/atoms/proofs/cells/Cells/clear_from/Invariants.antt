@@ -1,8 +1,0 @@
-use Rattle.std.proofs.Common.{ltb}
-use Rattle.literals.specs.declared.Fact.TheVariants.{From}
-use Rattle.atoms.specs.Cells.{state_of}
-use Rattle.atoms.proofs.Changing.{Cleared}
-use Rattle.atoms.proofs.cells.Cells.clear_from.Given as goal
-
-abbrev pub invariant-loop-z : goal.invariant-loop-z
-invariant-loop-z l = Cleared (state_of l.initial.self) (state_of l.self) (From l.relation l.object) (λ d e. ltb e l.z)

@@ -1,7 +1,0 @@
-use Rattle.std.proofs.Common.{◌≡◌, ◌+◌, ◌≤◌, ◌++◌, length, drop}
-use Rattle.literals.specs.State.{chosen}
-use Rattle.predecessor.specs.Made.{literals_of}
-use Rattle.predecessor.proofs.earlier.Earlier.push_chosen.Given as goal
-
-abbrev pub invariant-loop-literal : goal.invariant-loop-literal
-invariant-loop-literal l = (literals_of l.self ++ chosen l.names (drop l.literal-index l.literals) ≡ literals_of l.initial.self ++ chosen l.names l.literals) × (length (literals_of l.self) ≤ length (literals_of l.initial.self) + l.literal-index)

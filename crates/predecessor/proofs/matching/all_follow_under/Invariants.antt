@@ -1,7 +1,0 @@
-use Rattle.std.proofs.Common.{◌≡◌, drop}
-use Rattle.literals.specs.State.{chosen}
-use Rattle.literals.specs.Follow.{all, follows}
-use Rattle.predecessor.proofs.matching.all_follow_under.Given as goal
-
-abbrev pub invariant-loop-literal : goal.invariant-loop-literal
-invariant-loop-literal l = all (follows l.given) (chosen l.names (drop l.literal-index l.literals)) ≡ all (follows l.given) (chosen l.names l.literals)
