@@ -1,17 +1,14 @@
 -- What facts and effects make of the cells' state.
-use Rattle.std.proofs.Common.{◌≡◌, ℕ, ◌+◌, ◌<◌, ◌≤◌, Bool, true, false, cond, not, ◌&&◌, ◌||◌, eqb, ltb, List, [], ◌∷◌, length, get_or, drop, set, sym, refl, ap, ap₂, ◌∙◌, subst, arith}
+use Rattle.std.proofs.Common.{◌≡◌, ℕ, ◌+◌, ◌<◌, ◌≤◌, Bool, true, false, not, ◌&&◌, ◌||◌, List, [], ◌∷◌, length, get_or, drop, sym, refl, ap, ◌∙◌, subst}
 use Rattle.std.specs.List.{AllByRecursion}
 use Rattle.std.proofs.lemmas.List.{at_drop_more, at_drop_all, get_or-map, length-map}
 use Rattle.std.proofs.ByRecursion.{All-get_or}
-use Rattle.std.proofs.lemmas.Bool.{lt-ltb, both_ways}
-use Rattle.std.proofs.lemmas.Bool.Decides.{nat_tests}
-use Rattle.literals.specs.declared.Fact.{Fact}
-use Rattle.literals.specs.declared.Fact.TheVariants.{Unary, Binary, From, Into}
+use Rattle.std.proofs.lemmas.Bool.{both_ways}
+use Rattle.literals.specs.declared.Fact.TheVariants.{Unary, Binary}
 use Rattle.literals.specs.declared.Literal.{Literal}
 use Rattle.literals.specs.State.{State, under, chosen}
 use Rattle.literals.specs.Follow.{implies, follows}
-use Rattle.atoms.specs.declared.cells.Cells.{Cells}
-use Rattle.atoms.specs.Book.{relation_count, object_count}
+use Rattle.atoms.specs.Book.{object_count}
 use Rattle.atoms.specs.Range.{FactIn, LiteralIn}
 use Rattle.atoms.specs.Cells.{gains, loses, gained, lost}
 use Rattle.atoms.proofs.Setting.{same_state, with_none, without_none}

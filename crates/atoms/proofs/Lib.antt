@@ -1,7 +1,7 @@
 pub mod Setting
 pub mod Changing
 pub mod Opening
-pub mod Reading
+pub mod Deciding
 pub mod Ranged
 pub mod Steps
 pub mod Standing

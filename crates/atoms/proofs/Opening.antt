@@ -1,5 +1,5 @@
 -- The state of just some atoms, added one by one.
-use Rattle.std.proofs.Common.{◌≡◌, ℕ, ◌+◌, ◌<◌, ◌≤◌, Bool, true, false, not, ◌&&◌, List, [], ◌∷◌, map, length, get_or, drop, sym, refl, ap, ◌∙◌}
+use Rattle.std.proofs.Common.{◌≡◌, ℕ, ◌+◌, ◌<◌, ◌≤◌, Bool, true, false, not, ◌&&◌, List, [], ◌∷◌, map, length, get_or, drop, sym, refl, ap, ◌∙◌, subst}
 use Rattle.std.proofs.lemmas.List.{at_drop_more, at_drop_all}
 use Rattle.literals.specs.declared.Fact.{Fact}
 use Rattle.literals.specs.declared.Fact.TheVariants.{Unary, Binary}
@@ -8,7 +8,8 @@ use Rattle.literals.specs.Follow.{follows}
 use Rattle.atoms.specs.declared.book.Atom.{Atom}
 use Rattle.atoms.specs.declared.book.Atom.TheVariants as atom
 use Rattle.atoms.specs.Fire.{after}
-use Rattle.atoms.specs.Book.{nothing, affirmed, just}
+use Rattle.atoms.specs.Book.{nothing, affirmed, just, object_count}
+use Rattle.atoms.specs.Range.{AtomIn, FactIn}
 use Rattle.atoms.specs.Cells.{gains, gained}
 use Rattle.atoms.proofs.Setting.{same_state}
 use Rattle.atoms.proofs.Changing.{first_gained, gained_none}
@@ -16,6 +17,10 @@ use Rattle.atoms.proofs.Changing.{first_gained, gained_none}
 -- What is read of atoms past the end.
 abbrev pub no_atom : Atom
 no_atom = atom.Unary 0 0
+
+pub atom_in : (x : Atom) (f : Fact) → f ≡ (affirmed x).fact → AtomIn x → FactIn object_count f
+atom_in (atom.Unary a d) f is h = subst (FactIn object_count) (sym is) h
+atom_in (atom.Binary b d e) f is h = subst (FactIn object_count) (sym is) h
 
 affirms : (x : Atom) → (affirmed x).affirmed ≡ true
 affirms (atom.Unary a d) = refl

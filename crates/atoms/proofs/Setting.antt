@@ -1,13 +1,14 @@
 -- Cells that are set, as states.
-use Rattle.std.proofs.Common.{◌≡◌, ℕ, ◌<◌, Bool, true, false, not, ◌&&◌, ◌||◌, eqb, ltb, List, length, get_or, set, replicate, sym, refl, ap, ◌∙◌, subst, inl, inr}
-use Rattle.std.proofs.lemmas.List.{get_or-set_same, get_or-set_other, get_or_past, get_or-replicate, length-replicate}
-use Rattle.std.proofs.lemmas.Bool.{cases_lt, cases_eq, and_parts, and_right, ltb-true, lt-ltb, eq-eqb, ne_eqb}
+use Rattle.std.proofs.Common.{◌≡◌, ℕ, ◌<◌, ◌≤◌, Bool, true, false, not, ◌&&◌, ◌||◌, eqb, ltb, List, length, get_or, set, sym, refl, ap, ◌∙◌, subst, inl, inr, arith}
+use Rattle.std.proofs.lemmas.List.{get_or-set_same, get_or-set_other}
+use Rattle.std.proofs.lemmas.Bool.{cases_lt, cases_eq, and_parts, ltb-true, lt-ltb, le-ltb, eq-eqb, ne_eqb}
 use Rattle.literals.specs.declared.Fact.TheVariants.{Unary, Binary, From, Into}
-use Rattle.literals.specs.State.{State}
+use Rattle.literals.specs.declared.Fact.{Fact}
+use Rattle.literals.specs.State.{State, relation_of}
 use Rattle.atoms.specs.declared.cells.Cells.{Cells}
 use Rattle.atoms.specs.declared.objects.Objects.{Objects}
 use Rattle.atoms.specs.declared.objects.Pairs.{Pairs}
-use Rattle.atoms.specs.Book.{nothing, Held, relation_count, object_count}
+use Rattle.atoms.specs.Book.{Held, relation_count, object_count}
 use Rattle.atoms.specs.Objects.{has_object, has_pair, no_objects}
 use Rattle.atoms.specs.Cells.{no_pairs, unary_cell, binary_cell, state_of, gains, loses}
 
@@ -22,17 +23,6 @@ with_none false = refl
 pub without_none : (s : Bool) → s ≡ (s && true)
 without_none true = refl
 without_none false = refl
-
-none_of : {X : Type 0} (n i : ℕ) (x d : X) (has : X → Bool) → has x ≡ false → has d ≡ false → has (get_or (replicate n x) i d) ≡ false
-none_of n i x d has e f = elim (cases_lt i n) [
-  | inl l ↦ ap has (get_or-replicate n i x d l) ∙ e
-  | inr l ↦ ap has (get_or_past (replicate n x) i d (rw length-replicate l)) ∙ f
-]
-
-pub none_set : (o : Objects) (p : Pairs) (n : ℕ) → ((d : ℕ) → has_object o d ≡ false) → ((d e : ℕ) → has_pair p d e ≡ false) → state_of (record { unary = replicate n o; binary = replicate n p }) ≡ nothing
-none_set o p n no_one none = same_state (state_of (record { unary = replicate n o; binary = replicate n p })) nothing
-    (λ a d. and_right _ _ (none_of n a o no_objects (λ (x : Objects). has_object x d) (no_one d) (and_right _ _ refl)))
-    (λ b d e. and_right _ _ (none_of n b p no_pairs (λ (x : Pairs). has_pair x d e) (none d e) (and_right _ _ (and_right _ _ refl))))
 
 -- The model holds what cells hold.
 pub all_held : (c : Cells) → Held (state_of c)
@@ -108,3 +98,16 @@ module _ (c : Cells) (a : ℕ) (h : a < relation_count) where
 
     pub into_lost : (x : ℕ) → ((d e : ℕ) → has_pair new d e ≡ (has_pair (get_or c.binary a no_pairs) d e && not (eqb e x))) → state_of with_pairs ≡ loses (Into a x) (state_of c)
     into_lost x less = pairs_lost (λ d e. eqb e x) less
+
+-- There is nothing of a relation beyond the model.
+beyond : (n b a : ℕ) (h t : Bool) → n ≤ a → (ltb b n && h) ≡ ((ltb b n && h) && not (eqb b a && t))
+beyond n b a h t past = elim (cases_lt b n) [
+  | inl l ↦ rw (ne_eqb b a (λ e. omega arith)) (without_none (ltb b n && h))
+  | inr l ↦ rw (le-ltb b n l) refl
+]
+
+pub none_lost : (c : Cells) (f : Fact) → relation_count ≤ relation_of f → state_of c ≡ loses f (state_of c)
+none_lost c (Unary a x) past = same_state (state_of c) (loses (Unary a x) (state_of c)) (λ b d. beyond relation_count b a _ (eqb d x) past) (λ b d e. without_none (binary_cell c.binary b d e))
+none_lost c (Binary a x y) past = same_state (state_of c) (loses (Binary a x y) (state_of c)) (λ b d. without_none (unary_cell c.unary b d)) (λ b d e. beyond relation_count b a _ (eqb d x && eqb e y) past)
+none_lost c (From a x) past = same_state (state_of c) (loses (From a x) (state_of c)) (λ b d. without_none (unary_cell c.unary b d)) (λ b d e. beyond relation_count b a _ (eqb d x) past)
+none_lost c (Into a x) past = same_state (state_of c) (loses (Into a x) (state_of c)) (λ b d. without_none (unary_cell c.unary b d)) (λ b d e. beyond relation_count b a _ (eqb e x) past)

@@ -11,7 +11,7 @@ use Rattle.literals.specs.State.{State, TrueIn, Said, Holds, fact_under, under, 
 use Rattle.atoms.specs.Book.{Held, object_count}
 use Rattle.atoms.specs.Pattern.{Pattern, Different, StandsIn}
 use Rattle.atoms.specs.Range.{FactIn, LiteralIn, RowIn}
-use Rattle.atoms.specs.Placing.{at, MetAt, Placed, Tried, Outcome, candidate}
+use Rattle.atoms.specs.Placing.{at, MetAt, FirstFit, Tried, Outcome, candidate}
 
 -- Two objects that a held state cannot tell apart: they are equal, or both are beyond the model.
 abbrev Alike : ℕ → ℕ → Type 0
@@ -83,13 +83,13 @@ own_different f n different i j hi hj e = elim (own_cases f i) [
 
 module _ (p : Pattern) (s : State) where
   -- A placement with every literal met, one variable after another.
-  from_different : (f : ℕ → ℕ) → Different p.variables f → AllByRecursion (λ l. Holds s (under f l)) p.literals → Placed p s p.variables f
+  from_different : (f : ℕ → ℕ) → Different p.variables f → AllByRecursion (λ l. Holds s (under f l)) p.literals → FirstFit p s p.variables f
   from_different f different all i h = (
     λ j g e. let same : j ≡ i = different j i (omega arith) h e in omega arith,
     All-weaker (λ l. Holds s (under f l)) (MetAt s f i) (λ l met _. met) p.literals all,
   )
 
-  to_different : (f : ℕ → ℕ) → Placed p s p.variables f → Different p.variables f
+  to_different : (f : ℕ → ℕ) → FirstFit p s p.variables f → Different p.variables f
   to_different f placed i j hi hj e = elim (cases_order i j) [
     | inl same ↦ same
     | inr other ↦ elim other [
@@ -108,21 +108,21 @@ module _ (p : Pattern) (s : State) where
   all_met f n [] ranged met = tt
   all_met f n (l ∷ ls) ranged met = ((met (last_variable l.fact) (last_in n l.fact ranged.0)).0 refl, all_met f n ls ranged.1 (λ i h. (met i h).1))
 
-  placed_stands : RowIn p → (f : ℕ → ℕ) → Placed p s p.variables f → StandsIn p s
+  placed_stands : RowIn p → (f : ℕ → ℕ) → FirstFit p s p.variables f → StandsIn p s
   placed_stands ranged f placed = record {
     place = f;
     different = to_different f placed;
     all_hold = All-map (Holds s) (under f) p.literals (all_met f p.variables p.literals ranged.literals_in (λ i h. (placed i h).1));
   }
 
-  stands_tried : Held s → (w : StandsIn p s) → Placed p s p.variables (own w.place)
+  stands_tried : Held s → (w : StandsIn p s) → FirstFit p s p.variables (own w.place)
   stands_tried held w = from_different (own w.place) (own_different w.place p.variables w.different)
       (All-weaker (λ l. Holds s (under w.place l)) (λ l. Holds s (under (own w.place) l)) (holds_alike s held w.place (own w.place) (own_alike w.place)) p.literals (all_unmapped (Holds s) (under w.place) p.literals w.all_hold))
 
   -- Placing from the start decides whether the pattern stands.
-  pub stands_decided : RowIn p → Held s → (before left : List ℕ) (r : Bool) → Outcome p s 0 before left r → Decides r (StandsIn p s)
-  stands_decided ranged held before left true placed = (λ _. placed_stands ranged (at left) placed, λ _. refl)
-  stands_decided ranged held before left false none = (
+  pub stands_decided : RowIn p → Held s → (left : List ℕ) (r : Bool) → Outcome p s [] left r → Decides r (StandsIn p s)
+  stands_decided ranged held left true placed = (λ _. placed_stands ranged (at left) placed, λ _. refl)
+  stands_decided ranged held left false none = (
     λ e. absurd (false≢true e),
     λ w. absurd (none.0 (own w.place) (λ i h. absurd (omega arith)) (own_tried w.place p.variables) (stands_tried held w)),
   )

@@ -1,5 +1,5 @@
 -- The state that cells hold, and what one fact makes of a state.
-use Rattle.std.specs.Prelude.{◌≡◌, ℕ, Bool, true, false, not, ◌&&◌, ◌||◌, List, [], nat_lt, slice_index_or}
+use Rattle.std.specs.Prelude.{ℕ, Bool, true, false, not, ◌&&◌, ◌||◌, List, [], nat_lt, slice_index_or}
 use Rattle.literals.specs.declared.Fact.{Fact}
 use Rattle.literals.specs.declared.Fact.TheVariants.{Unary, Binary}
 use Rattle.literals.specs.declared.Literal.{Literal}
@@ -8,7 +8,7 @@ use Rattle.literals.specs.Follow.{implies, follows}
 use Rattle.atoms.specs.declared.cells.Cells.{Cells}
 use Rattle.atoms.specs.declared.objects.Objects.{Objects}
 use Rattle.atoms.specs.declared.objects.Pairs.{Pairs}
-use Rattle.atoms.specs.Book.{relation_count, object_count}
+use Rattle.atoms.specs.Book.{relation_count}
 use Rattle.atoms.specs.Objects.{has_object, has_pair, no_objects}
 
 -- What is read past the end.

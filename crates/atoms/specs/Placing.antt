@@ -1,5 +1,5 @@
 -- Placing the variables of a pattern one after another.
-use Rattle.std.specs.Prelude.{◌≡◌, ℕ, ◌+◌, ◌<◌, Bool, true, false, cond, List, ◌≢◌, nat_lt, slice_index}
+use Rattle.std.specs.Prelude.{◌≡◌, ℕ, ◌+◌, ◌<◌, Bool, true, false, cond, List, length, ◌≢◌, nat_lt, slice_index}
 use Rattle.std.specs.List.{AllByRecursion}
 use Rattle.literals.specs.declared.Literal.{Literal}
 use Rattle.literals.specs.State.{State, Holds, under, last_variable}
@@ -20,8 +20,12 @@ module _ (p : Pattern) (s : State) where
   FitsAt place i = ((j : ℕ) → j < i → place j ≢ place i) × AllByRecursion (MetAt s place i) p.literals
 
   -- So do the first k.
-  abbrev pub Placed : ℕ → (ℕ → ℕ) → Type 0
-  Placed k place = (i : ℕ) → i < k → FitsAt place i
+  abbrev pub FirstFit : ℕ → (ℕ → ℕ) → Type 0
+  FirstFit k place = (i : ℕ) → i < k → FitsAt place i
+
+  -- So do all that are placed.
+  abbrev pub Placed : List ℕ → Type 0
+  Placed placed = FirstFit (length placed) (at placed)
 
 -- The objects that are tried for a variable: those of the model, and one beyond it, another for each variable.
 abbrev pub candidate : ℕ → ℕ → ℕ
@@ -30,11 +34,11 @@ candidate i k = cond (nat_lt k object_count) k (object_count + i)
 abbrev pub Tried : ℕ → (ℕ → ℕ) → Type 0
 Tried n place = (i : ℕ) → i < n → (k : ℕ) × (k < 17) × (place i ≡ candidate i k)
 
--- A placement goes on from the first k objects of a list.
-abbrev pub Extends : ℕ → List ℕ → (ℕ → ℕ) → Type 0
-Extends k placed place = (i : ℕ) → i < k → place i ≡ at placed i
+-- A placement goes on from a list of objects.
+abbrev pub Extends : List ℕ → (ℕ → ℕ) → Type 0
+Extends placed place = (i : ℕ) → i < length placed → place i ≡ at placed i
 
--- What comes of placing the others: all are placed, or no placement that is tried goes on from the first k.
-abbrev pub Outcome : Pattern → State → ℕ → List ℕ → List ℕ → Bool → Type 0
-Outcome p s k before left true = Placed p s p.variables (at left)
-Outcome p s k before left false = ((place : ℕ → ℕ) → Extends k before place → Tried p.variables place → Placed p s p.variables place → ⊥) × Extends k before (at left)
+-- What comes of placing the others: all are placed, or no placement that is tried goes on from those that were, and those are left.
+abbrev pub Outcome : Pattern → State → List ℕ → List ℕ → Bool → Type 0
+Outcome p s before left true = FirstFit p s p.variables (at left)
+Outcome p s before left false = ((place : ℕ → ℕ) → Extends before place → Tried p.variables place → FirstFit p s p.variables place → ⊥) × (left ≡ before)

@@ -1,4 +1,7 @@
-use literals::Literal;
+ghost use Rattle.std.specs.Prelude.{◌≡◌};
+ghost use Rattle.atoms.specs.Book.{affirmed};
+
+use literals::{Fact, Literal};
 
 /// A ground atom.
 #[derive(Clone, Copy, PartialEq, Eq, Debug)]
@@ -7,6 +10,28 @@ pub enum Atom {
     Unary { relation: u8, object: u8 },
     /// b(first, second)
     Binary { relation: u8, first: u8, second: u8 },
+}
+
+impl From<Atom> for Fact {
+    ghost from_gives = { λ atom fact. fact ≡ (affirmed atom).fact };
+
+    fn from(atom: Atom) -> Fact {
+        match atom {
+            Atom::Unary { relation, object } => Fact::Unary {
+                relation,
+                x: object,
+            },
+            Atom::Binary {
+                relation,
+                first,
+                second,
+            } => Fact::Binary {
+                relation,
+                x: first,
+                y: second,
+            },
+        }
+    }
 }
 
 /// A rule: a guarded transition over variables.

@@ -10,6 +10,7 @@ ghost use Rattle.atoms.specs.Model.{atoms_book, atoms_state, Made, FiredIn, Look
 use crate::book::{Atom, Book, BookRefusal, Row, Rule};
 use crate::cells::Cells;
 use crate::model::Atoms;
+use literals::Fact;
 use pattern::{FireRefusal, LookRefusal};
 
 impl Atoms {
@@ -57,20 +58,16 @@ impl Atoms {
         ensures fired { FiredIn (atoms_book self.old) (atoms_state self.old) rule choice.now result (atoms_state self.new) }
         ensures within { result ≢ Err BeyondModel }
     {
-        match self.book.rule(rule) {
-            Some(rule) => rule.fire(&mut self.cells, choice),
-            None => Err(FireRefusal::NoSuchRule),
-        }
+        let rule = self.book.rule(rule).ok_or(FireRefusal::NoSuchRule)?;
+        rule.fire(&mut self.cells, choice)
     }
 
     /// Whether a row stands in the state.
     pub fn look(&self, row: usize) -> Result<bool, LookRefusal>
         ensures { LookedIn (atoms_book self.now) (atoms_state self.now) row result }
     {
-        match self.book.row(row) {
-            Some(row) => Ok(row.stands_in(&self.cells)),
-            None => Err(LookRefusal::NoSuchRow),
-        }
+        let row = self.book.row(row).ok_or(LookRefusal::NoSuchRow)?;
+        Ok(row.stands_in(&self.cells))
     }
 
     /// Goes back to the opening state.
@@ -85,15 +82,16 @@ impl Atoms {
     pub fn stands_in_opening(&self, row: usize) -> bool
         ensures { Decides result (StandsOf (atoms_book self.now) row (just (atoms_book self.now).opening)) }
     {
-        match self.book.row(row) {
-            Some(row) => row.stands_in(&Cells::of(&self.book.opening)),
-            None => false,
-        }
+        let opening = Cells::of(&self.book.opening);
+        self.book
+            .row(row)
+            .is_some_and(|row| row.stands_in(&opening))
     }
 }
 
 impl Book {
     /// The rule with this number.
+    // Beside the method of `Atoms`, so that `fire` borrows the book alone while it writes the cells.
     fn rule(&self, number: usize) -> Option<&Rule>
         ensures { MatchOption result (length (book_of self.now).rules ≤ number) (λ x. (number < length (book_of self.now).rules) × (transition_of x.now ≡ rule_at (book_of self.now) number)) }
     {
@@ -116,7 +114,7 @@ impl Cells {
     {
         let mut cells = Cells::new();
         for atom in atoms {
-            cells.add(*atom);
+            cells.gain(Fact::from(*atom));
         }
         cells
     }

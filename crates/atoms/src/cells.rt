@@ -34,15 +34,14 @@ impl Cells {
     fn has(&self, fact: Fact) -> bool
         ensures { Decides result (TrueIn (state_of self.now) fact) }
     {
+        if fact.relation() >= RELATIONS {
+            return false;
+        }
         match fact {
-            Fact::Unary { relation, x } => relation < RELATIONS
-                && self.unary[relation as usize].contains(x),
-            Fact::Binary { relation, x, y } => relation < RELATIONS
-                && self.binary[relation as usize].contains(x, y),
-            Fact::From { relation, x } => relation < RELATIONS
-                && self.binary[relation as usize].has_from(x),
-            Fact::Into { relation, x } => relation < RELATIONS
-                && self.binary[relation as usize].has_into(x),
+            Fact::Unary { relation, x } => self.unary[relation as usize].contains(x),
+            Fact::Binary { relation, x, y } => self.binary[relation as usize].contains(x, y),
+            Fact::From { relation, x } => self.binary[relation as usize].has_from(x),
+            Fact::Into { relation, x } => self.binary[relation as usize].has_into(x),
         }
     }
 

@@ -1,18 +1,17 @@
 ghost use Rattle.std.specs.Prelude.{◌≡◌};
-ghost use Rattle.atoms.specs.Book.{object_count, affirmed};
-ghost use Rattle.atoms.specs.Range.{AtomIn, FactIn, LiteralIn};
+ghost use Rattle.atoms.specs.Book.{object_count};
+ghost use Rattle.atoms.specs.Range.{FactIn, LiteralIn};
 ghost use Rattle.literals.specs.Renamed.{renamed};
 ghost use Rattle.std.specs.List.{AllByRecursion};
 ghost use Rattle.atoms.specs.Fire.{after};
 ghost use Rattle.atoms.specs.Cells.{state_of, gains, loses, gained, lost};
 
-use crate::book::Atom;
-use crate::cells::Cells;
+use crate::cells::{Cells, RELATIONS};
 use literals::{Fact, Renamed};
 
 impl Cells {
     /// Adds the atom that a fact is; one that is none adds none.
-    fn gain(&mut self, fact: Fact)
+    pub(crate) fn gain(&mut self, fact: Fact)
         requires { FactIn object_count fact }
         ensures { state_of self.new ≡ gains fact (state_of self.old) }
     {
@@ -23,33 +22,13 @@ impl Cells {
         }
     }
 
-    /// Adds an atom.
-    pub(crate) fn add(&mut self, atom: Atom)
-        requires { AtomIn atom }
-        ensures { state_of self.new ≡ gains (affirmed atom).fact (state_of self.old) }
-    {
-        match atom {
-            Atom::Unary { relation, object } => self.gain(Fact::Unary {
-                relation,
-                x: object,
-            }),
-            Atom::Binary {
-                relation,
-                first,
-                second,
-            } => self.gain(Fact::Binary {
-                relation,
-                x: first,
-                y: second,
-            }),
-        }
-    }
-
     /// Takes away the atoms that imply a fact.
     fn lose(&mut self, fact: Fact)
-        requires { FactIn object_count fact }
         ensures { state_of self.new ≡ loses fact (state_of self.old) }
     {
+        if fact.relation() >= RELATIONS {
+            return;
+        }
         match fact {
             Fact::Unary { relation, x } => self.unary[relation as usize].remove(x),
             Fact::Binary { relation, x, y } => self.binary[relation as usize].remove(x, y),
@@ -71,8 +50,8 @@ impl Cells {
     }
 
     /// Takes away the atoms that an effect denies.
+    // Beside `gain_all`, and not one function over the sign, since they share the loop alone.
     fn lose_all(&mut self, effect: &Renamed<'_>)
-        requires { AllByRecursion (LiteralIn object_count) (renamed effect.now) }
         ensures { state_of self.new ≡ lost (renamed effect.now) (state_of self.old) }
     {
         for literal in effect.literals {

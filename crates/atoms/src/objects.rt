@@ -45,10 +45,11 @@ impl Objects {
 
     /// Takes an object away.
     pub(crate) fn remove(&mut self, object: u8)
-        requires { object < object_count }
         ensures { (d : ℕ) → has_object self.new d ≡ (has_object self.old d && not (d == object)) }
     {
-        self.has[object as usize] = false;
+        if object < OBJECTS {
+            self.has[object as usize] = false;
+        }
     }
 }
 
@@ -100,27 +101,28 @@ impl Pairs {
 
     /// Takes a pair away.
     pub(crate) fn remove(&mut self, first: u8, second: u8)
-        requires { (first < object_count) × (second < object_count) }
         ensures { (d e : ℕ) → has_pair self.new d e ≡ (has_pair self.old d e && not (d == first && e == second)) }
     {
-        self.from[first as usize].remove(second);
+        if first < OBJECTS {
+            self.from[first as usize].remove(second);
+        }
     }
 
     /// Takes every pair with this first object away.
     pub(crate) fn remove_from(&mut self, first: u8)
-        requires { first < object_count }
         ensures { (d e : ℕ) → has_pair self.new d e ≡ (has_pair self.old d e && not (d == first)) }
     {
-        self.from[first as usize] = Objects::new();
+        if first < OBJECTS {
+            self.from[first as usize] = Objects::new();
+        }
     }
 
     /// Takes every pair with this second object away.
     pub(crate) fn remove_into(&mut self, second: u8)
-        requires { second < object_count }
         ensures { (d e : ℕ) → has_pair self.new d e ≡ (has_pair self.old d e && not (e == second)) }
     {
-        for first in 0..OBJECTS {
-            self.remove(first, second);
+        for objects in &mut self.from {
+            objects.remove(second);
         }
     }
 }

@@ -29,7 +29,7 @@ impl Book {
         if self.opening.len() > MAX_ATOMS {
             return Err(BookRefusal::OpeningLength);
         }
-        if !atoms_in_range(&self.opening) {
+        if !self.opening.iter().all(|atom| atom.in_range()) {
             return Err(BookRefusal::OpeningRange);
         }
         if !rules_allowed(self.rule_count()) {
@@ -62,6 +62,7 @@ impl Book {
     }
 
     /// Whether every rule is in range.
+    // A method, as `rows_in_range` is, since its contract says what `all` decides of the rules as plain data.
     fn rules_in_range(&self) -> bool
         ensures { Decides result (AllByRecursion RuleIn (book_of self.now).rules) }
     {
@@ -84,7 +85,7 @@ impl Rule {
         self.is_short()
             && literals_in_range(&self.condition, self.variables)
             && literals_in_range(&self.effect, self.variables)
-            && are_effective(&self.effect)
+            && self.effect.iter().all(|literal| is_effective(*literal))
     }
 
     /// Whether the rule has few enough variables and literals.
@@ -113,33 +114,15 @@ impl Atom {
     fn in_range(self) -> bool
         ensures { Decides result (AtomIn self) }
     {
-        match self {
-            Atom::Unary { relation, object } => relation < RELATIONS && object < OBJECTS,
-            Atom::Binary {
-                relation,
-                first,
-                second,
-            } => relation < RELATIONS && first < OBJECTS && second < OBJECTS,
-        }
+        fact_in_range(Fact::from(self), OBJECTS)
     }
-}
-
-/// Whether every atom is one of a model's relations and objects.
-fn atoms_in_range(atoms: &[Atom]) -> bool
-    ensures { Decides result (AllByRecursion AtomIn atoms.now) }
-{
-    atoms.iter().all(|atom| atom.in_range())
 }
 
 /// Whether a fact is one of a model's relations over so many variables.
 fn fact_in_range(fact: Fact, variables: u8) -> bool
     ensures { Decides result (FactIn variables fact) }
 {
-    match fact {
-        Fact::Unary { relation, x } | Fact::From { relation, x } | Fact::Into { relation, x } =>
-            relation < RELATIONS && x < variables,
-        Fact::Binary { relation, x, y } => relation < RELATIONS && x < variables && y < variables,
-    }
+    fact.relation() < RELATIONS && fact.last_variable() < variables
 }
 
 /// Whether every literal is one of a model's relations over so many variables.
@@ -159,11 +142,4 @@ fn is_effective(literal: Literal) -> bool
         Fact::Unary { .. } | Fact::Binary { .. } => true,
         Fact::From { .. } | Fact::Into { .. } => !literal.affirmed,
     }
-}
-
-/// Whether every literal can stand in an effect.
-fn are_effective(effect: &[Literal]) -> bool
-    ensures { Decides result (AllByRecursion EffectIn effect.now) }
-{
-    effect.iter().all(|literal| is_effective(*literal))
 }

@@ -2,4 +2,3 @@ pub mod Failing
 pub mod Listing
 pub mod Following
 pub mod Renaming
-pub mod Search

@@ -39,6 +39,13 @@ fact_under f (Into b x) = Into b (f x)
 abbrev pub under : (ℕ → ℕ) → Literal → Literal
 under f l = record { fact = fact_under f l.fact; affirmed = l.affirmed }
 
+-- The relation of a fact.
+abbrev pub relation_of : Fact → ℕ
+relation_of (Unary a x) = a
+relation_of (Binary b x y) = b
+relation_of (From b x) = b
+relation_of (Into b x) = b
+
 -- The largest variable of a fact.
 abbrev pub last_variable : Fact → ℕ
 last_variable (Unary a x) = x

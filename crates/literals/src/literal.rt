@@ -1,6 +1,6 @@
 ghost use Rattle.std.specs.Prelude.{◌≡◌, slice_index};
 ghost use Rattle.literals.specs.declared.literal.Fact.TheVariants.{Unary};
-ghost use Rattle.literals.specs.State.{under, last_variable};
+ghost use Rattle.literals.specs.State.{under, relation_of, last_variable};
 ghost use Rattle.literals.specs.Follow.{implies, yields, denial};
 ghost use Rattle.literals.specs.Number.{literal_kind_number, KindNumbered, kind_of};
 
@@ -85,19 +85,6 @@ impl Fact {
         ensures { result ≡ implies self other }
     {
         match (self, other) {
-            (Fact::Unary { relation: a, x }, Fact::Unary { relation: b, x: y }) => a == b && x == y,
-            (
-                Fact::Binary {
-                    relation: a,
-                    x,
-                    y: w,
-                },
-                Fact::Binary {
-                    relation: b,
-                    x: y,
-                    y: z,
-                },
-            ) => a == b && (x == y && w == z),
             (Fact::Binary { relation: a, x, .. }, Fact::From { relation: b, x: y }) => a == b
                 && x == y,
             (
@@ -108,9 +95,19 @@ impl Fact {
                 },
                 Fact::Into { relation: b, x: y },
             ) => a == b && w == y,
-            (Fact::From { relation: a, x }, Fact::From { relation: b, x: y }) => a == b && x == y,
-            (Fact::Into { relation: a, x }, Fact::Into { relation: b, x: y }) => a == b && x == y,
-            _ => false,
+            _ => self == other,
+        }
+    }
+
+    /// The relation of the fact.
+    pub fn relation(self) -> u8
+        ensures { result ≡ relation_of self }
+    {
+        match self {
+            Fact::Unary { relation, .. }
+            | Fact::Binary { relation, .. }
+            | Fact::From { relation, .. }
+            | Fact::Into { relation, .. } => relation,
         }
     }
 
@@ -156,8 +153,8 @@ impl Literal {
         ensures { result ≡ denial self }
     {
         Literal {
-            fact: self.fact,
             affirmed: !self.affirmed,
+            ..self
         }
     }
 
@@ -195,10 +192,7 @@ impl Literal {
                 x: name(names, x),
             },
         };
-        Literal {
-            fact,
-            affirmed: self.affirmed,
-        }
+        Literal { fact, ..self }
     }
 }
 

@@ -4,7 +4,7 @@ use borrow.Author.Tests.{tests}
 use Rattle.atoms.specs.declared.book.Row.{Row}
 use Rattle.atoms.specs.Range.{RowIn}
 use Rattle.atoms.specs.Data.{pattern_of}
-use Rattle.atoms.proofs.Reading.{mapped_decides, all_decided}
+use Rattle.atoms.proofs.Deciding.{mapped_decides, all_decided}
 use Rattle.atoms.proofs.book.Book.rows_in_range.Goals as goal
 
 pub returns : goal.returns

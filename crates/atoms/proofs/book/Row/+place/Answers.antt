@@ -1,32 +1,29 @@
-use Rattle.std.proofs.Common.{◌≡◌, ℕ, List, sym, ◌∙◌, subst, arith, rules}
+use Rattle.std.proofs.Common.{◌≡◌, ℕ, ◌+◌, List, [], ◌∷◌, ◌++◌, length, sym, ap, ◌∙◌, subst, arith, rules}
 use Rattle.std.proofs.lemmas.Bool.Decides.{not_from_Decides}
+use Rattle.arrayvec.specs.ArrayVec.{ArrayVec}
 use Rattle.atoms.specs.Pattern.{Pattern}
 use Rattle.literals.specs.State.{State}
 use Rattle.atoms.specs.Data.{pattern_of}
 use Rattle.atoms.specs.Cells.{state_of}
-use Rattle.atoms.specs.Placing.{at, Placed, candidate}
-use Rattle.atoms.proofs.Steps.{placed_same, placed_more, extends_more, extends_set, extends_after, not_here, none_more}
+use Rattle.atoms.specs.Placing.{Placed, Extends, candidate}
+use Rattle.atoms.proofs.Steps.{placed_more, extends_more, fits_here, fits_there, not_here, taken_off, none_more}
 use Rattle.atoms.proofs.book.Row.+place.Goals as goal
 use Rattle.atoms.proofs.book.Row.+place.Goals.{else-fits-via-then-fits+else-place, else-fits-via-else-fits}
-
-pub returns-then-next-self : goal.returns-then-next-self
-returns-then-next-self t c = subst (λ (n : ℕ). Placed (pattern_of c.args.self.now) (state_of c.args.cells.now) n (at c.args.placed.now)) c.if-next-self.true c.requires.so_far
 
 pub place-requires : goal.place-requires
 place-requires t c =
     let p = pattern_of c.args.self.now in
-    let s = state_of c.args.cells.now in (
-      search rules,
+    let s = state_of c.args.cells.now in
+    let before = c.args.placed.now.items in
+    let v = c.candidate.result in
+    let pushed : c.push.new.self.items ≡ before ++ v ∷ [] = c.push.ensures.items ∙ ap (λ (xs : List ℕ). xs ++ v ∷ []) c.loop-k.invariant.same in
+    let longer : length c.push.new.self.items ≡ length before + 1 = c.push.ensures.len ∙ ap (λ (xs : List ℕ). length xs + 1) c.loop-k.invariant.same in (
+      search (rules, longer),
       (
-        omega arith,
+        omega (arith, longer),
         (
           search rules,
-          (
-            omega arith,
-            placed_more p s c.loop-k.placed c.args.next c.candidate.result
-                (placed_same p s c.args.placed.now c.loop-k.placed c.args.next c.loop-k.invariant.0 c.requires.so_far)
-                (c.fits.ensures.0 c.if-fits.true),
-          ),
+          subst (Placed p s) (sym pushed) (placed_more before v p s c.requires.so_far (fits_here before v p s c.deref.result.now (c.deref.ensures.0 ∙ pushed) (c.fits.ensures.0 c.if-fits.true))),
         ),
       ),
     )
@@ -35,25 +32,26 @@ pub loop-k-preserved : goal.loop-k-preserved
 loop-k-preserved t c =
     let p : Pattern = pattern_of c.args.self.now in
     let s : State = state_of c.args.cells.now in
-    let before : List ℕ = c.args.placed.now in
-    let xs : List ℕ = c.loop-k.placed in
-    let next : ℕ = c.args.next in
+    let before : List ℕ = c.args.placed.now.items in
+    let next : ℕ = c.len-next.result in
     let v : ℕ = c.candidate.result in
+    let pushed : c.push.new.self.items ≡ before ++ v ∷ [] = c.push.ensures.items ∙ ap (λ (xs : List ℕ). xs ++ v ∷ []) c.loop-k.invariant.same in
+    let value : (f : ℕ → ℕ) → f next ≡ candidate next c.loop-k.k → f (length before) ≡ v = λ f here. ap f (sym c.len-next.ensures.value) ∙ here ∙ sym c.candidate.ensures in
     elim c.else-fits.branch [
-      | else-fits-via-then-fits+else-place w ↦ (
-        rw w.placed-is (extends_after before xs w.place.new.placed next v c.loop-k.invariant.0 w.if-place.ensures.1),
-        λ f x tried placed. none_more (λ k. f next ≡ candidate next k) c.loop-k.k (c.loop-k.invariant.1 f x tried placed)
-            (λ here. w.if-place.ensures.0 f (extends_more before xs next v f (omega arith) c.loop-k.invariant.0 x (here ∙ sym c.candidate.ensures)) tried placed),
-      )
-      | else-fits-via-else-fits w ↦ (
-        rw w.placed-is (extends_set before xs next v c.loop-k.invariant.0),
-        λ f x tried placed. none_more (λ k. f next ≡ candidate next k) c.loop-k.k (c.loop-k.invariant.1 f x tried placed)
-            (λ here. not_here p s before xs next c.args.self.now.variables v f (omega arith) (omega arith) (not_from_Decides c.fits.result c.fits.ensures w.if-fits.false) c.loop-k.invariant.0 x placed (here ∙ sym c.candidate.ensures)),
-      )
+      | else-fits-via-then-fits+else-place w ↦ record {
+        same = taken_off before c.else-fits.placed.items c.pop.new.self.items v (ap (λ (x : ArrayVec ℕ). x.items) w.placed-is ∙ w.if-place.ensures.1 ∙ pushed) c.pop.ensures.rest;
+        none = λ f x tried placed. none_more (λ k. f next ≡ candidate next k) c.loop-k.k (c.loop-k.invariant.none f x tried placed)
+            (λ here. w.if-place.ensures.0 f (subst (λ (xs : List ℕ). Extends xs f) (sym pushed) (extends_more before v f x (value f here))) tried placed);
+      }
+      | else-fits-via-else-fits w ↦ record {
+        same = taken_off before c.else-fits.placed.items c.pop.new.self.items v (ap (λ (x : ArrayVec ℕ). x.items) w.placed-is ∙ pushed) c.pop.ensures.rest;
+        none = λ f x tried placed. none_more (λ k. f next ≡ candidate next k) c.loop-k.k (c.loop-k.invariant.none f x tried placed)
+            (λ here. not_here before v p s c.args.self.now.variables f (omega arith) (λ fits. not_from_Decides c.fits.result c.fits.ensures w.if-fits.false (fits_there before v p s c.deref.result.now (c.deref.ensures.0 ∙ pushed) fits)) x placed (value f here));
+      }
     ]
 
 pub returns : goal.returns
 returns t c = (
-  λ f x tried placed. let k = tried c.args.next (omega arith) in c.loop-k.invariant.1 f x tried placed k.0 (omega (arith, k.1)) k.2,
-  c.loop-k.invariant.0,
+  λ f x tried placed. let k = tried c.len-next.result (omega arith) in c.loop-k.invariant.none f x tried placed k.0 (omega (arith, k.1)) k.2,
+  c.loop-k.invariant.same,
 )

@@ -1,13 +1,14 @@
-use Rattle.std.proofs.Common.{◌≡◌, ℕ, ◌-◌, ◌<◌}
+use Rattle.std.proofs.Common.{◌≡◌, ℕ, ◌-◌, ◌<◌, length}
 use Rattle.atoms.specs.Data.{pattern_of}
 use Rattle.atoms.specs.Cells.{state_of}
-use Rattle.atoms.specs.Placing.{at, Placed, Tried, Extends, candidate}
+use Rattle.atoms.specs.Placing.{FirstFit, Tried, Extends, candidate}
 use Rattle.atoms.proofs.book.Row.+place.Given as goal
 
 abbrev pub decreases-place : goal.decreases-place
-decreases-place l = l.self.now.variables - l.next
+decreases-place l = l.self.now.variables - length l.placed.now.items
 
 abbrev pub invariant-loop-k : goal.invariant-loop-k
-invariant-loop-k l =
-    Extends l.next l.initial.placed (at l.placed)
-    × ((place : ℕ → ℕ) → Extends l.next l.initial.placed place → Tried l.self.variables place → Placed (pattern_of l.self) (state_of l.cells) l.self.variables place → (k : ℕ) → k < l.k → place l.next ≡ candidate l.next k → ⊥)
+invariant-loop-k l = record {
+  same : l.placed.items ≡ l.initial.placed.items;
+  none : (place : ℕ → ℕ) → Extends l.initial.placed.items place → Tried l.self.variables place → FirstFit (pattern_of l.self) (state_of l.cells) l.self.variables place → (k : ℕ) → k < l.k → place l.next ≡ candidate l.next k → ⊥;
+}

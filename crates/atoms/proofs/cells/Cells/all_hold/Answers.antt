@@ -4,7 +4,7 @@ use borrow.Author.Tests.{tests}
 use Rattle.literals.specs.declared.literal.Literal.{Literal}
 use Rattle.literals.specs.State.{Holds, under}
 use Rattle.atoms.specs.Cells.{state_of}
-use Rattle.atoms.proofs.Reading.{mapped_decides, all_decided}
+use Rattle.atoms.proofs.Deciding.{mapped_decides, all_decided}
 use Rattle.atoms.proofs.cells.Cells.all_hold.Goals as goal
 
 pub returns : goal.returns

@@ -1,4 +1,4 @@
-use Rattle.std.proofs.Common.{sym, ap, ◌∙◌, subst, arith, rules}
+use Rattle.std.proofs.Common.{sym, ap, ◌∙◌, subst, arith}
 use Rattle.literals.specs.declared.Fact.{Fact}
 use Rattle.atoms.specs.Book.{object_count}
 use Rattle.atoms.specs.Range.{FactIn}

@@ -1,7 +1,7 @@
 use Rattle.std.proofs.Common.{ap, ◌∙◌}
 use Rattle.literals.specs.State.{chosen}
 use Rattle.atoms.specs.Cells.{state_of, lost}
-use Rattle.atoms.proofs.Changing.{literal_in, lose_more, lose_skip, lose_end}
+use Rattle.atoms.proofs.Changing.{lose_more, lose_skip, lose_end}
 use Rattle.atoms.proofs.cells.Cells.lose_all.Goals as goal
 use Rattle.atoms.proofs.cells.Cells.lose_all.Goals.{then-not-literal, else-not-literal}
 
@@ -16,6 +16,3 @@ loop-literal-preserved c =
 
 pub returns : goal.returns
 returns c = lose_end c.args.effect.now.names.now c.args.effect.now.literals.now c.loop-literal.literal-index c.loop-literal-test.false (state_of c.loop-literal.self) (lost (chosen c.args.effect.now.names.now c.args.effect.now.literals.now) (state_of c.args.self.now)) c.loop-literal.invariant
-
-pub lose-requires : goal.lose-requires
-lose-requires c = literal_in c.args.effect.now.names.now c.args.effect.now.literals.now c.loop-literal.literal-index _ c.loop-literal-test.true c.under.result c.under.ensures c.requires

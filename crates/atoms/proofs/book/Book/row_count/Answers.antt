@@ -1,5 +1,0 @@
-use Rattle.atoms.proofs.Reading.{counted}
-use Rattle.atoms.proofs.book.Book.row_count.Goals as goal
-
-pub returns : goal.returns
-returns c = counted _ c.args.self.now.rows c.len.result c.len.ensures
