@@ -1,6 +1,6 @@
--- Going through a list and writing another: the steps of the loops.
-use Rattle.std.proofs.Common.{◌≡◌, ℕ, suc, ◌+◌, ◌-◌, ◌/◌, ◌%◌, ◌<◌, ◌≤◌, Bool, cond, ◌&&◌, eqb, leb, List, [], ◌∷◌, ◌++◌, length, get_or, take, drop, filter, sym, ap, ◌∙◌, arith}
-use Rattle.std.proofs.lemmas.List.{length-append, length-map, length-take, append_assoc, at_drop_more}
+-- The steps of the loops: over the digits of a case number, over names, and over the literals of a row.
+use Rattle.std.proofs.Common.{◌≡◌, ℕ, suc, ◌+◌, ◌-◌, ◌/◌, ◌%◌, ◌<◌, ◌≤◌, Bool, cond, ◌&&◌, eqb, leb, List, ◌∷◌, ◌++◌, length, get_or, take, drop, filter, ap, arith}
+use Rattle.std.proofs.lemmas.List.{length-append, length-map, length-take, at_drop_more}
 use Rattle.literals.specs.declared.Literal.{Literal}
 use Rattle.literals.specs.State.{under, chosen}
 use Rattle.atoms.specs.Pattern.{Pattern}
@@ -9,10 +9,6 @@ use Rattle.atoms.specs.Range.{RuleIn, RowIn}
 use Rattle.std.proofs.lemmas.List.Sums.{length-filter, count_by-le-length}
 use Rattle.predecessor.specs.Proper.{digits, proper}
 use Rattle.predecessor.specs.Earlier.{kept}
-
--- One more of what is left to write is written.
-pub written_more : {Y : Type 0} (done left rest total : List Y) (y : Y) → done ++ left ≡ total → left ≡ y ∷ rest → (done ++ y ∷ []) ++ rest ≡ total
-written_more done left rest total y e is = append_assoc done (y ∷ []) rest ∙ ap (λ ys. done ++ ys) (sym is) ∙ e
 
 -- What is left to write, one digit on.
 pub next_digit : (base k i rest : ℕ) → i < k → digits base (k - i) rest ≡ rest % base ∷ digits base (k - (i + 1)) (rest / base)

@@ -7,6 +7,7 @@ use atoms::Row;
 use literals::{Literal, follows};
 
 /// Whether a list has a number twice.
+// By recursion on the slice: `any` over its places would have to cut it behind each.
 fn repeats(numbers: &[u8]) -> bool
     ensures { result ≡ repeats numbers.now }
 {

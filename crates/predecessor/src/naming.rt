@@ -10,6 +10,7 @@ pub(crate) fn proper(first: u8, names: &[u8]) -> bool
     ensures value { result ≡ proper first names.now }
     ensures order { Decides result (Proper first names.now) }
 {
+    // A `for`: a `try_fold` would carry `next` and still ask twice about each name.
     let mut next = first;
     for name in names {
         if *name > next {

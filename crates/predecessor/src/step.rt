@@ -50,6 +50,7 @@ impl StepBack<'_> {
         ensures { literals_of result ≡ literals_before (rule_of self.now.pair) (row_of self.now.pair) self.now.names.items }
     {
         let effect = self.effect();
+        // Pushed one by one, since `extend` would answer for want of room, which there never is.
         let mut literals = ArrayVec::new();
         for literal in &self.pair.rule.condition {
             literals.push(literal.under(&self.names));
