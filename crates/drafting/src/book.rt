@@ -90,7 +90,7 @@ impl DraftBook {
                 Ok(DraftBook::Counts(net))
             }
             DraftBook::Atoms(mut book) => {
-                book.opening = bodies::read_atoms(heap, body.bytes, body.place)?;
+                book.opening = bodies::read_atoms(heap, body)?;
                 Ok(DraftBook::Atoms(book))
             }
         }

@@ -124,8 +124,8 @@ pub fn take_record<'a>(
 {
     match bytes {
         [l0, l1, k0, k1, rest @ ..] => {
-            let length = usize::from(*l0) + 256 * usize::from(*l1);
-            let kind = u16::from(*k0) + 256 * u16::from(*k1);
+            let length = usize::from(u16::from_le_bytes([*l0, *l1]));
+            let kind = u16::from_le_bytes([*k0, *k1]);
             if length > rest.len() {
                 return Err(DossierFault::CutShort { place });
             }
