@@ -2,7 +2,7 @@ ghost use Rattle.std.specs.Prelude.{◌≡◌, ◌*◌, true, length, take, drop
 ghost use Rattle.counts.specs.Data.{transition_of};
 ghost use Rattle.records.specs.Number.{book_number};
 ghost use Rattle.bodies.specs.Lists.{Taken};
-ghost use Rattle.drafting.specs.Book.{begun, rule_count, row_count, opening_fits, rule_fits, row_fits, opening_in, rule_in, row_in, with_opening, with_rule, with_row};
+ghost use Rattle.drafting.specs.Book.{begun, rule_count, row_count, rule_fits, row_fits, opening_in, rule_in, row_in, with_opening, with_rule, with_row};
 ghost use Rattle.drafting.specs.Drafted.{draft_book_of};
 
 use crate::draft::DraftBook;
@@ -47,36 +47,6 @@ impl DraftBook {
         match self {
             DraftBook::Counts(net) => net.row_count(),
             DraftBook::Atoms(book) => book.row_count(),
-        }
-    }
-
-    /// Whether the body of an opening has the right length, over so many places.
-    pub fn opening_fits(&self, places: u8, bytes: &[u8]) -> bool
-        ensures { result ≡ opening_fits places (draft_book_of self.now) bytes.now }
-    {
-        match self {
-            DraftBook::Counts(_) => bytes.len() == 2 * usize::from(places),
-            DraftBook::Atoms(_) => bodies::opening_fits(bytes),
-        }
-    }
-
-    /// Whether the body of a rule has the right length, over so many places.
-    pub fn rule_fits(&self, places: u8, bytes: &[u8]) -> bool
-        ensures { result ≡ rule_fits places (draft_book_of self.now) bytes.now }
-    {
-        match self {
-            DraftBook::Counts(_) => bytes.len() == 2 * usize::from(places),
-            DraftBook::Atoms(_) => bodies::rule_fits(bytes),
-        }
-    }
-
-    /// Whether the body of a row has the right length, over so many places.
-    pub fn row_fits(&self, places: u8, bytes: &[u8]) -> bool
-        ensures { result ≡ row_fits places (draft_book_of self.now) bytes.now }
-    {
-        match self {
-            DraftBook::Counts(_) => bytes.len() == 2 * usize::from(places),
-            DraftBook::Atoms(_) => bodies::row_fits(bytes),
         }
     }
 

@@ -115,7 +115,7 @@ impl<'a> Record<'a> {
 }
 
 /// Takes the first record off the bytes that are left from a place on: the number of its kind, its
-/// body, and what is left after it.
+/// body, and what is left after it. Its head is taken off by a slice pattern, in place.
 pub fn take_record<'a>(
     bytes: &'a [u8],
     place: usize,
