@@ -1,57 +1,63 @@
--- Fields of four bytes that are read one after the other.
-use Rattle.std.proofs.Common.{◌≡◌, ℕ, suc, ◌<◌, ◌≤◌, Bool, true, false, ◌&&◌, List, [], ◌∷◌, ◌++◌, length, get_or, drop, sym, refl, ap, ◌∙◌, arith}
-use Rattle.std.proofs.lemmas.List.{append-nil, append_assoc}
-use Rattle.std.proofs.lemmas.Bool.{and_left}
-use Rattle.bodies.specs.Lists.{each_four, all_four}
+-- Items of four bytes each, taken from a list four bytes at a time.
+use Rattle.std.proofs.Common.{◌≡◌, ℕ, zero, suc, ◌/◌, Bool, true, false, ◌&&◌, List, [], ◌∷◌, map, length, Ok, Err, Result, Vec, vec_items, refl, ap, ◌∙◌, sym, subst, inl, inr, arith}
+use Rattle.std.specs.List.{list_all}
+use Rattle.std.specs.Simd.{first_chunks}
+use Rattle.std.specs.declared.alloc.Global.{Global}
+use Rattle.records.specs.declared.RecordFault.{RecordFault}
+use Rattle.records.specs.declared.RecordFault.TheVariants.{KindNotAllowed, WrongLength, Field, Literal, OutOfMemory}
+use Rattle.records.specs.Each.{SomeGives, EachRead}
+use Rattle.records.proofs.Items.{some_here, all_said, some_out}
+use Rattle.bodies.specs.Literal.{of_four}
+use Rattle.bodies.specs.Lists.{each_four, all_four, Taken}
 
-module _ {X : Type 0} (f : ℕ → ℕ → ℕ → ℕ → X) where
-  each_first : (bytes : List ℕ) → 4 ≤ length bytes → each_four f bytes ≡ f (get_or bytes 0 0) (get_or bytes 1 0) (get_or bytes 2 0) (get_or bytes 3 0) ∷ each_four f (drop 4 bytes)
-  each_first [] h = absurd (omega arith)
-  each_first (a ∷ []) h = absurd (let short : 4 ≤ 1 = h in omega arith)
-  each_first (a ∷ b ∷ []) h = absurd (let short : 4 ≤ 2 = h in omega arith)
-  each_first (a ∷ b ∷ c ∷ []) h = absurd (let short : 4 ≤ 3 = h in omega arith)
-  each_first (a ∷ b ∷ c ∷ d ∷ bytes) h = refl
+-- The items are what each four bytes give.
+all_fours : (p : ℕ → ℕ → ℕ → ℕ → Bool) (k : ℕ) (b : List ℕ) → length b / 4 ≡ k → list_all (of_four p) (first_chunks 4 k b) ≡ all_four p b
+all_fours p zero [] e = refl
+all_fours p zero (a ∷ []) e = refl
+all_fours p zero (a ∷ b ∷ []) e = refl
+all_fours p zero (a ∷ b ∷ c ∷ []) e = refl
+all_fours p zero (a ∷ b ∷ c ∷ d ∷ bytes) e = absurd (let long : suc (suc (suc (suc (length bytes)))) / 4 ≡ 0 = e in omega arith)
+all_fours p (suc k) [] e = absurd (let short : 0 / 4 ≡ suc k = e in omega arith)
+all_fours p (suc k) (a ∷ []) e = absurd (let short : 1 / 4 ≡ suc k = e in omega arith)
+all_fours p (suc k) (a ∷ b ∷ []) e = absurd (let short : 2 / 4 ≡ suc k = e in omega arith)
+all_fours p (suc k) (a ∷ b ∷ c ∷ []) e = absurd (let short : 3 / 4 ≡ suc k = e in omega arith)
+all_fours p (suc k) (a ∷ b ∷ c ∷ d ∷ bytes) e = ap (λ (rest : Bool). p a b c d && rest) (all_fours p k bytes (let long : suc (suc (suc (suc (length bytes)))) / 4 ≡ suc k = e in omega arith))
 
-  each_none : (bytes : List ℕ) → length bytes < 4 → each_four f bytes ≡ []
-  each_none [] h = refl
-  each_none (a ∷ []) h = refl
-  each_none (a ∷ b ∷ []) h = refl
-  each_none (a ∷ b ∷ c ∷ []) h = refl
-  each_none (a ∷ b ∷ c ∷ d ∷ bytes) h = absurd (let long : suc (suc (suc (suc (length bytes)))) < 4 = h in omega arith)
+each_fours : {X : Type 0} (f : ℕ → ℕ → ℕ → ℕ → X) (k : ℕ) (b : List ℕ) → length b / 4 ≡ k → map (of_four f) (first_chunks 4 k b) ≡ each_four f b
+each_fours f zero [] e = refl
+each_fours f zero (a ∷ []) e = refl
+each_fours f zero (a ∷ b ∷ []) e = refl
+each_fours f zero (a ∷ b ∷ c ∷ []) e = refl
+each_fours f zero (a ∷ b ∷ c ∷ d ∷ bytes) e = absurd (let long : suc (suc (suc (suc (length bytes)))) / 4 ≡ 0 = e in omega arith)
+each_fours f (suc k) [] e = absurd (let short : 0 / 4 ≡ suc k = e in omega arith)
+each_fours f (suc k) (a ∷ []) e = absurd (let short : 1 / 4 ≡ suc k = e in omega arith)
+each_fours f (suc k) (a ∷ b ∷ []) e = absurd (let short : 2 / 4 ≡ suc k = e in omega arith)
+each_fours f (suc k) (a ∷ b ∷ c ∷ []) e = absurd (let short : 3 / 4 ≡ suc k = e in omega arith)
+each_fours {X} f (suc k) (a ∷ b ∷ c ∷ d ∷ bytes) e = ap (λ (rest : List X). f a b c d ∷ rest) (each_fours f k bytes (let long : suc (suc (suc (suc (length bytes)))) / 4 ≡ suc k = e in omega arith))
 
-  -- One more is taken off what is left.
-  pub each_more : (items more : List X) (left rest bytes : List ℕ) (x : X) → 4 ≤ length left → x ≡ f (get_or left 0 0) (get_or left 1 0) (get_or left 2 0) (get_or left 3 0) → more ≡ items ++ x ∷ [] → rest ≡ drop 4 left → items ++ each_four f left ≡ each_four f bytes → more ++ each_four f rest ≡ each_four f bytes
-  each_more items more left rest bytes x h e g d inv =
-      ap (λ (xs : List X). xs ++ each_four f rest) g
-      ∙ append_assoc items (x ∷ []) (each_four f rest)
-      ∙ ap (λ (xs : List X). items ++ xs) (ap (λ (y : X). y ∷ each_four f rest) e ∙ ap (λ (xs : List ℕ). f (get_or left 0 0) (get_or left 1 0) (get_or left 2 0) (get_or left 3 0) ∷ each_four f xs) d ∙ sym (each_first left h))
-      ∙ inv
+-- What is read of each four bytes, told of all.
+module _ {X : Type 0} (Gives : List ℕ → Result X RecordFault → Type 0) (p : ℕ → ℕ → ℕ → ℕ → Bool) (f : ℕ → ℕ → ℕ → ℕ → X) (place : ℕ) (b : List ℕ) where
+  abbrev fours : List (List ℕ)
+  fours = first_chunks 4 (length b / 4) b
 
-  pub each_all : (items : List X) (left bytes : List ℕ) → length left < 4 → items ++ each_four f left ≡ each_four f bytes → items ≡ each_four f bytes
-  each_all items left bytes h inv = sym (append-nil items) ∙ ap (λ (xs : List X). items ++ xs) (sym (each_none left h)) ∙ inv
+  abbrev Law : Type 0
+  Law = (four : List ℕ) (s : Result X RecordFault) → Gives four s → Taken (λ x. x) (of_four p four) (of_four f four) place s
 
-module _ (p : ℕ → ℕ → ℕ → ℕ → Bool) where
-  all_first : (bytes : List ℕ) → 4 ≤ length bytes → all_four p bytes ≡ (p (get_or bytes 0 0) (get_or bytes 1 0) (get_or bytes 2 0) (get_or bytes 3 0) && all_four p (drop 4 bytes))
-  all_first [] h = absurd (omega arith)
-  all_first (a ∷ []) h = absurd (let short : 4 ≤ 1 = h in omega arith)
-  all_first (a ∷ b ∷ []) h = absurd (let short : 4 ≤ 2 = h in omega arith)
-  all_first (a ∷ b ∷ c ∷ []) h = absurd (let short : 4 ≤ 3 = h in omega arith)
-  all_first (a ∷ b ∷ c ∷ d ∷ bytes) h = refl
+  out : (e : RecordFault) → ((four : List ℕ) → Gives four (Err e) → of_four p four ≡ false) → SomeGives Gives fours e → all_four p b ≡ false
+  out e law h = sym (all_fours p (length b / 4) b refl) ∙ some_out Gives (of_four p) e law fours h
 
-  all_none : (bytes : List ℕ) → length bytes < 4 → all_four p bytes ≡ true
-  all_none [] h = refl
-  all_none (a ∷ []) h = refl
-  all_none (a ∷ b ∷ []) h = refl
-  all_none (a ∷ b ∷ c ∷ []) h = refl
-  all_none (a ∷ b ∷ c ∷ d ∷ bytes) h = absurd (let long : suc (suc (suc (suc (length bytes)))) < 4 = h in omega arith)
+  fault : (e : RecordFault) → SomeGives Gives fours e → Law → Taken (vec_items {Z = Global}) (all_four p b) (each_four f b) place (Err e)
+  fault (KindNotAllowed q) h law = some_here Gives ⊥ _ (λ n g. law n _ g) fours h
+  fault (WrongLength q) h law = some_here Gives ⊥ _ (λ n g. law n _ g) fours h
+  fault (Field q) h law = (some_here Gives _ _ (λ n g. (law n _ g).0) fours h, out _ (λ n g. (law n _ g).1) h)
+  fault (Literal q) h law = (some_here Gives _ _ (λ n g. (law n _ g).0) fours h, out _ (λ n g. (law n _ g).1) h)
+  fault OutOfMemory h law = tt
 
-  -- The next four are in range.
-  pub all_more : (left rest bytes : List ℕ) → 4 ≤ length left → p (get_or left 0 0) (get_or left 1 0) (get_or left 2 0) (get_or left 3 0) ≡ true → rest ≡ drop 4 left → all_four p left ≡ all_four p bytes → all_four p rest ≡ all_four p bytes
-  all_more left rest bytes h e d inv = ap (all_four p) d ∙ sym (ap (λ (b : Bool). b && all_four p (drop 4 left)) e) ∙ sym (all_first left h) ∙ inv
-
-  -- They are not.
-  pub not_all : (left bytes : List ℕ) → 4 ≤ length left → p (get_or left 0 0) (get_or left 1 0) (get_or left 2 0) (get_or left 3 0) ≡ false → all_four p left ≡ all_four p bytes → all_four p bytes ≡ false
-  not_all left bytes h e inv = sym inv ∙ all_first left h ∙ and_left _ _ e
-
-  pub all_all : (left bytes : List ℕ) → length left < 4 → all_four p left ≡ all_four p bytes → all_four p bytes ≡ true
-  all_all left bytes h inv = sym inv ∙ all_none left h
+  pub all_taken : (xs : List (List ℕ)) (r : Result (Vec X Global) RecordFault) → xs ≡ fours → EachRead Gives xs r → Law → Taken (vec_items {Z = Global}) (all_four p b) (each_four f b) place r
+  all_taken xs (Ok v) is h law =
+      let said = all_said Gives (of_four p) (of_four f) (λ n x g. law n (Ok x) g) fours (vec_items v) (rw is at h.values) in
+      (sym (all_fours p (length b / 4) b refl) ∙ said.0, said.1 ∙ each_fours f (length b / 4) b refl)
+  all_taken xs (Err e) is h law = elim h.fault [
+    | inl none ↦ subst (λ (q : RecordFault). Taken (vec_items {Z = Global}) (all_four p b) (each_four f b) place (Err q)) (sym none) tt
+    | inr some ↦ fault e (rw is at some) law
+  ]

@@ -7,7 +7,7 @@ use Rattle.records.specs.declared.RecordFault.{RecordFault}
 use Rattle.records.specs.declared.RecordFault.TheVariants as fault
 use Rattle.records.specs.Fault.{literal_place}
 use Rattle.bodies.specs.declared.literal.Role.{Role}
-use Rattle.bodies.specs.Literal.{literal_in, literal_of, atom_in, atom_of}
+use Rattle.bodies.specs.Literal.{of_four, literal_in, literal_of, atom_in, atom_of}
 
 -- What four bytes each give, and whether each four are in range. Up to three bytes that are left over count for nothing.
 abbrev pub each_four : {X : Type 0} → (ℕ → ℕ → ℕ → ℕ → X) → List ℕ → List X
@@ -44,6 +44,10 @@ Taken meaning ranged value place (Err (fault.WrongLength p)) = ⊥
 Taken meaning ranged value place (Err (fault.Field f)) = (f.place ≡ place) × (ranged ≡ false)
 Taken meaning ranged value place (Err (fault.Literal f)) = (literal_place f ≡ place) × (ranged ≡ false)
 Taken meaning ranged value place (Err fault.OutOfMemory) = Unit {0}
+
+-- Four bytes, and what they give.
+abbrev pub FourTaken : {X : Type 0} → (ℕ → ℕ → ℕ → ℕ → Bool) → (ℕ → ℕ → ℕ → ℕ → X) → List ℕ → ℕ → Result X RecordFault → Type 0
+FourTaken p f four place = Taken (λ x. x) (of_four p four) (of_four f four) place
 
 abbrev pub LiteralsRead : Role → ℕ → List ℕ → ℕ → Result (Vec Literal Global) RecordFault → Type 0
 LiteralsRead role n bytes place = Taken vec_items (literals_in role n bytes) (literals_of bytes) place

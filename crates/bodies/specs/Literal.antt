@@ -1,5 +1,5 @@
 -- Literals and atoms as four bytes of a body: kind, relation, first, second.
-use Rattle.std.specs.Prelude.{◌≡◌, ℕ, zero, suc, Bool, true, false, cond, ◌&&◌, ◌||◌, Ok, Err, Result, ◌==◌, nat_le, nat_lt}
+use Rattle.std.specs.Prelude.{◌≡◌, ℕ, zero, suc, Bool, true, false, cond, ◌&&◌, ◌||◌, List, Ok, Err, Result, ◌==◌, nat_le, nat_lt, slice_index}
 use Rattle.literals.specs.declared.Fact.TheVariants as fact
 use Rattle.literals.specs.declared.Literal.{Literal}
 use Rattle.literals.specs.declared.LiteralKind.{LiteralKind}
@@ -70,6 +70,10 @@ literal_in role n k r x y = kind_in role k && (nat_lt r relation_count && (nat_l
 abbrev pub literal_of : ℕ → ℕ → ℕ → ℕ → Literal
 literal_of k r x y = shaped (kind_numbered k) r x y
 
+-- What four bytes give.
+abbrev pub of_four : {X : Type 0} → (ℕ → ℕ → ℕ → ℕ → X) → List ℕ → X
+of_four f four = f (slice_index four 0) (slice_index four 1) (slice_index four 2) (slice_index four 3)
+
 -- Which of the four bytes is the first that is out of range.
 abbrev pub FirstOut : Role → ℕ → ℕ → ℕ → ℕ → ℕ → LiteralFault → Type 0
 FirstOut role n k r x y (Kind _) = kind_in role k ≡ false
@@ -78,9 +82,9 @@ FirstOut role n k r x y (First _) = (kind_in role k ≡ true) × (nat_lt r relat
 FirstOut role n k r x y (Second _) = (kind_in role k ≡ true) × (nat_lt r relation_count ≡ true) × (nat_lt x n ≡ true) × (second_in (kind_numbered k) n y ≡ false)
 
 -- Four bytes that are read as a literal, in the record at a place.
-abbrev pub LiteralRead : Role → ℕ → ℕ → ℕ → ℕ → ℕ → ℕ → Result Literal LiteralFault → Type 0
-LiteralRead role n k r x y place (Ok l) = (literal_in role n k r x y ≡ true) × (l ≡ literal_of k r x y)
-LiteralRead role n k r x y place (Err f) = (literal_place f ≡ place) × FirstOut role n k r x y f
+abbrev pub LiteralRead : Role → ℕ → List ℕ → ℕ → Result Literal LiteralFault → Type 0
+LiteralRead role n four place (Ok l) = (of_four (literal_in role n) four ≡ true) × (l ≡ of_four literal_of four)
+LiteralRead role n four place (Err f) = (literal_place f ≡ place) × FirstOut role n (slice_index four 0) (slice_index four 1) (slice_index four 2) (slice_index four 3) f
 
 -- Four bytes are an atom of a model: kind 0 or 2, a relation, and its objects.
 abbrev pub atom_in : ℕ → ℕ → ℕ → ℕ → Bool
@@ -89,6 +93,6 @@ atom_in k r d e = (k == literal_kind_number Unary && (nat_lt r relation_count &&
 abbrev pub atom_of : ℕ → ℕ → ℕ → ℕ → Atom
 atom_of k r d e = cond (k == literal_kind_number Unary) (atom.Unary r d) (atom.Binary r d e)
 
-abbrev pub AtomRead : ℕ → ℕ → ℕ → ℕ → ℕ → Result Atom FieldFault → Type 0
-AtomRead k r d e place (Ok a) = (atom_in k r d e ≡ true) × (a ≡ atom_of k r d e)
-AtomRead k r d e place (Err f) = (f.place ≡ place) × (atom_in k r d e ≡ false)
+abbrev pub AtomRead : List ℕ → ℕ → Result Atom FieldFault → Type 0
+AtomRead four place (Ok a) = (of_four atom_in four ≡ true) × (a ≡ of_four atom_of four)
+AtomRead four place (Err f) = (f.place ≡ place) × (of_four atom_in four ≡ false)

@@ -1,9 +1,10 @@
-ghost use Rattle.bodies.specs.Lists.{LiteralsRead, AtomsRead};
+ghost use Rattle.bodies.specs.Literal.{literal_in, literal_of, atom_in, atom_of};
+ghost use Rattle.bodies.specs.Lists.{FourTaken, LiteralsRead, AtomsRead};
 
 use crate::literal::{Role, read_atom, read_literal};
 use atoms::Atom;
 use literals::Literal;
-use records::RecordFault;
+use records::{Body, RecordFault, read_each};
 use std::alloc::Global;
 
 /// Literals, four bytes each.
@@ -11,29 +12,32 @@ pub fn read_literals(
     heap: Global,
     role: Role,
     variables: u8,
-    bytes: &[u8],
-    place: usize,
+    body: Body<'_>,
 ) -> Result<Vec<Literal>, RecordFault>
-    ensures { LiteralsRead role variables bytes.now place result }
+    ensures { LiteralsRead role variables body.entry.bytes.now body.entry.place result }
 {
-    let mut literals = Vec::new(heap);
-    let mut left = bytes;
-    while let [number, relation, x, y, rest @ ..] = left {
-        literals.push(read_literal(role, variables, *number, *relation, *x, *y, place)?)?;
-        left = rest;
-    }
-    Ok(literals)
+    let place = body.place;
+    let (fours, _) = body.bytes.as_chunks();
+    read_each(
+        heap,
+        fours,
+        |four| -> Result<Literal, RecordFault>
+            ensures { FourTaken (literal_in role variables) literal_of four place result }
+        { read_literal(role, variables, four, place).map_err(RecordFault::Literal) },
+    )
 }
 
 /// Atoms, four bytes each.
-pub fn read_atoms(heap: Global, bytes: &[u8], place: usize) -> Result<Vec<Atom>, RecordFault>
-    ensures { AtomsRead bytes.now place result }
+pub fn read_atoms(heap: Global, body: Body<'_>) -> Result<Vec<Atom>, RecordFault>
+    ensures { AtomsRead body.entry.bytes.now body.entry.place result }
 {
-    let mut atoms = Vec::new(heap);
-    let mut left = bytes;
-    while let [number, relation, first, second, rest @ ..] = left {
-        atoms.push(read_atom(*number, *relation, *first, *second, place)?)?;
-        left = rest;
-    }
-    Ok(atoms)
+    let place = body.place;
+    let (fours, _) = body.bytes.as_chunks();
+    read_each(
+        heap,
+        fours,
+        |four| -> Result<Atom, RecordFault>
+            ensures { FourTaken atom_in atom_of four place result }
+        { read_atom(four, place).map_err(RecordFault::Field) },
+    )
 }

@@ -31,14 +31,12 @@ impl Role {
 pub fn read_literal(
     role: Role,
     variables: u8,
-    number: u8,
-    relation: u8,
-    x: u8,
-    y: u8,
+    four: [u8; 4],
     place: usize,
 ) -> Result<Literal, LiteralFault>
-    ensures { LiteralRead role variables number relation x y place result }
+    ensures { LiteralRead role variables four place result }
 {
+    let [number, relation, x, y] = four;
     let Some(kind) = LiteralKind::new(number) else {
         return Err(LiteralFault::Kind { place });
     };
@@ -85,15 +83,10 @@ fn literal(kind: LiteralKind, relation: u8, x: u8, y: u8) -> Literal
 }
 
 /// The atom of four bytes (kind, relation, first and second object), in the record at a place.
-pub fn read_atom(
-    number: u8,
-    relation: u8,
-    first: u8,
-    second: u8,
-    place: usize,
-) -> Result<Atom, FieldFault>
-    ensures { AtomRead number relation first second place result }
+pub fn read_atom(four: [u8; 4], place: usize) -> Result<Atom, FieldFault>
+    ensures { AtomRead four place result }
 {
+    let [number, relation, first, second] = four;
     let fault = FieldFault { place };
     if relation >= RELATIONS || first >= OBJECTS {
         return Err(fault);

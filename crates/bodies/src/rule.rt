@@ -54,8 +54,16 @@ pub fn read_rule(heap: Global, body: Body<'_>) -> Result<Rule, RecordFault>
         return Err(RecordFault::Field(fault));
     }
     let (condition, effect) = literals.split_at(4 * conditions);
-    let condition = read_literals(heap, Role::Condition, *variables, condition, body.place)?;
-    let effect = read_literals(heap, Role::Effect, *variables, effect, body.place)?;
+    let condition = Body {
+        bytes: condition,
+        ..body
+    };
+    let effect = Body {
+        bytes: effect,
+        ..body
+    };
+    let condition = read_literals(heap, Role::Condition, *variables, condition)?;
+    let effect = read_literals(heap, Role::Effect, *variables, effect)?;
     Ok(Rule {
         variables: *variables,
         condition,
@@ -75,7 +83,11 @@ pub fn read_row(heap: Global, body: Body<'_>) -> Result<Row, RecordFault>
     if usize::from(*variables) > MAX_ROW_VARIABLES || usize::from(*count) > MAX_ROW_LITERALS {
         return Err(RecordFault::Field(fault));
     }
-    let literals = read_literals(heap, Role::Condition, *variables, literals, body.place)?;
+    let literals = Body {
+        bytes: literals,
+        ..body
+    };
+    let literals = read_literals(heap, Role::Condition, *variables, literals)?;
     Ok(Row {
         variables: *variables,
         literals,

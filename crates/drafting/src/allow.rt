@@ -32,10 +32,7 @@ impl Draft {
     pub fn ended(&self) -> bool
         ensures { Decides result (self.now.section ≡ EndSection) }
     {
-        match self.section {
-            Section::End => true,
-            _ => false,
-        }
+        self.section == Section::End
     }
 
     /// Whether a record of this kind is allowed here.
@@ -65,16 +62,18 @@ impl Draft {
         ensures { result ≡ long (progress_of self.now) kind body.now }
     {
         let length = body.len();
-        match kind {
-            RecordKind::Head => length == 3,
-            RecordKind::Opening => self.book.opening_fits(self.places, body),
-            RecordKind::Rule => self.book.rule_fits(self.places, body),
-            RecordKind::Row => self.book.row_fits(self.places, body),
-            RecordKind::Moves => length % Mode::COUNT == 0
-                && length / Mode::COUNT == self.book.rule_count(),
-            RecordKind::ObserverRow => length == 2,
-            RecordKind::Entry => 1 <= length && length <= 1 + MAX_MATCHING,
-            RecordKind::End => length == 0,
+        match (kind, &self.book) {
+            (RecordKind::Head, _) => length == 3,
+            (RecordKind::Opening | RecordKind::Rule | RecordKind::Row, DraftBook::Counts(_)) =>
+                length == 2 * usize::from(self.places),
+            (RecordKind::Opening, DraftBook::Atoms(_)) => bodies::opening_fits(body),
+            (RecordKind::Rule, DraftBook::Atoms(_)) => bodies::rule_fits(body),
+            (RecordKind::Row, DraftBook::Atoms(_)) => bodies::row_fits(body),
+            (RecordKind::Moves, book) => length % Mode::COUNT == 0
+                && length / Mode::COUNT == book.rule_count(),
+            (RecordKind::ObserverRow, _) => length == 2,
+            (RecordKind::Entry, _) => 1 <= length && length <= 1 + MAX_MATCHING,
+            (RecordKind::End, _) => length == 0,
         }
     }
 }

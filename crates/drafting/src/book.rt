@@ -2,7 +2,7 @@ ghost use Rattle.std.specs.Prelude.{◌≡◌, ◌*◌, true, length, take, drop
 ghost use Rattle.counts.specs.Data.{transition_of};
 ghost use Rattle.records.specs.Number.{book_number};
 ghost use Rattle.bodies.specs.Lists.{Taken};
-ghost use Rattle.drafting.specs.Book.{begun, rule_count, row_count, opening_fits, rule_fits, row_fits, opening_in, rule_in, row_in, with_opening, with_rule, with_row};
+ghost use Rattle.drafting.specs.Book.{begun, rule_count, row_count, rule_fits, row_fits, opening_in, rule_in, row_in, with_opening, with_rule, with_row};
 ghost use Rattle.drafting.specs.Drafted.{draft_book_of};
 
 use crate::draft::DraftBook;
@@ -50,36 +50,6 @@ impl DraftBook {
         }
     }
 
-    /// Whether the body of an opening has the right length, over so many places.
-    pub fn opening_fits(&self, places: u8, bytes: &[u8]) -> bool
-        ensures { result ≡ opening_fits places (draft_book_of self.now) bytes.now }
-    {
-        match self {
-            DraftBook::Counts(_) => bytes.len() == 2 * usize::from(places),
-            DraftBook::Atoms(_) => bodies::opening_fits(bytes),
-        }
-    }
-
-    /// Whether the body of a rule has the right length, over so many places.
-    pub fn rule_fits(&self, places: u8, bytes: &[u8]) -> bool
-        ensures { result ≡ rule_fits places (draft_book_of self.now) bytes.now }
-    {
-        match self {
-            DraftBook::Counts(_) => bytes.len() == 2 * usize::from(places),
-            DraftBook::Atoms(_) => bodies::rule_fits(bytes),
-        }
-    }
-
-    /// Whether the body of a row has the right length, over so many places.
-    pub fn row_fits(&self, places: u8, bytes: &[u8]) -> bool
-        ensures { result ≡ row_fits places (draft_book_of self.now) bytes.now }
-    {
-        match self {
-            DraftBook::Counts(_) => bytes.len() == 2 * usize::from(places),
-            DraftBook::Atoms(_) => bodies::row_fits(bytes),
-        }
-    }
-
     /// The same with an opening.
     pub fn with_opening(self, heap: Global, body: Body<'_>) -> Result<DraftBook, RecordFault>
         ensures { Taken draft_book_of (opening_in (draft_book_of self) body.entry.bytes.now) (with_opening (draft_book_of self) body.entry.bytes.now) body.entry.place result }
@@ -90,7 +60,7 @@ impl DraftBook {
                 Ok(DraftBook::Counts(net))
             }
             DraftBook::Atoms(mut book) => {
-                book.opening = bodies::read_atoms(heap, body.bytes, body.place)?;
+                book.opening = bodies::read_atoms(heap, body)?;
                 Ok(DraftBook::Atoms(book))
             }
         }

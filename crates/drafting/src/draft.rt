@@ -18,7 +18,8 @@ pub struct Layer {
     pub rows: Vec<ObserverRow>,
 }
 
-/// The observers of a dossier, from the lowest on.
+/// The observers of a dossier, from the lowest on. No `Vec`: the type has the limit of two, and each case
+/// makes a kind of another type.
 #[derive(Drop)]
 pub enum Layers {
     None,

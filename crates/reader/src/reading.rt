@@ -13,6 +13,7 @@ use std::alloc::Global;
 pub const MAX_BYTES: usize = 65_535;
 
 /// Reads a file that may hold such books: what its records hold, or the first record at fault.
+#[tactic(auto, using(crate::proofs::OneVerdict::one_verdict, crate::proofs::EncodingLaw::encoding_law))]
 pub fn read(heap: Global, books: Books, bytes: &[u8]) -> Result<Draft, DossierFault>
     ensures reads { Read books bytes.now result }
     ensures alone { OneVerdict books bytes.now }

@@ -1,2 +1,3 @@
 pub mod Unmapped
-pub mod Fields
+pub mod Words
+pub mod Items

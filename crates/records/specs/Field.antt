@@ -1,5 +1,6 @@
 -- Fields of bodies: numbers of two bytes, and modes.
 use Rattle.std.specs.Prelude.{◌≡◌, ℕ, zero, suc, ◌<◌, ◌≤◌, Bool, true, false, ◌&&◌, List, [], ◌∷◌, map, Ok, Err, vec_items, Result, Vec, nat_le}
+use Rattle.std.specs.List.{list_all}
 use Rattle.std.specs.declared.alloc.Global.{Global}
 use Rattle.observer.specs.declared.Mode.{Mode}
 use Rattle.observer.specs.declared.Mode.TheVariants.{Zero, One, Two, Three}
@@ -22,8 +23,7 @@ mode_of (suc (suc zero)) = Two
 mode_of (suc (suc (suc n))) = Three
 
 abbrev pub all_at_most : ℕ → List ℕ → Bool
-all_at_most most [] = true
-all_at_most most (n ∷ ns) = nat_le n most && all_at_most most ns
+all_at_most most = list_all (λ n. nat_le n most)
 
 -- A byte that is read as a mode, in the record at a place.
 abbrev pub ModeRead : ℕ → ℕ → Result Mode FieldFault → Type 0

@@ -4,3 +4,4 @@ pub mod Bytes
 pub mod Record
 pub mod Order
 pub mod Field
+pub mod Each

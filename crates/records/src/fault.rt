@@ -54,7 +54,8 @@ pub struct FieldFault {
     pub place: usize,
 }
 
-/// Which number of a literal is beyond its range, in the record at a place.
+/// Which number of a literal is beyond its range, in the record at a place. It travels in the faults of a
+/// record and of a dossier, by `From`.
 #[derive(Clone, Copy)]
 pub enum LiteralFault {
     Kind { place: usize },

@@ -2,6 +2,7 @@ ghost use Rattle.std.specs.Prelude.{◌≡◌, IfOk};
 ghost use Rattle.records.specs.Field.{words};
 ghost use Rattle.records.specs.Field.{Moded, ModeRead};
 
+use crate::each::read_each;
 use crate::fault::{FieldFault, RecordFault};
 use crate::record::Body;
 use observer::Mode;
@@ -11,24 +12,20 @@ use std::alloc::{AllocError, Global};
 pub fn read_words(heap: Global, bytes: &[u8]) -> Result<Vec<u16>, AllocError>
     ensures { IfOk result (λ v. v.items ≡ words bytes.now) }
 {
-    let mut numbers = Vec::new(heap);
-    let mut left = bytes;
-    while let [low, high, rest @ ..] = left {
-        numbers.push(u16::from(*low) + 256 * u16::from(*high))?;
-        left = rest;
-    }
-    Ok(numbers)
+    let (words, _) = bytes.as_chunks();
+    words
+        .iter()
+        .map(|word| u16::from_le_bytes(*word))
+        .collect(heap)
 }
 
 /// Modes, one byte each.
 pub fn read_modes(heap: Global, body: Body<'_>) -> Result<Vec<Mode>, RecordFault>
     ensures { Moded body.entry.bytes.now body.entry.place result }
 {
-    let mut modes = Vec::new(heap);
-    for number in body.bytes {
-        modes.push(read_mode(*number, body.place)?)?;
-    }
-    Ok(modes)
+    read_each(heap, body.bytes, |number| {
+        read_mode(number, body.place).map_err(RecordFault::Field)
+    })
 }
 
 /// The mode with a number, in the record at a place.

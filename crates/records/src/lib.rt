@@ -2,12 +2,14 @@
 // of a body, and what can be at fault.
 #![tactic(auto)]
 
+mod each;
 pub mod fault;
 mod field;
 pub mod head;
 pub mod record;
 pub mod section;
 
+pub use each::read_each;
 pub use fault::{DossierFault, FieldFault, FormFault, FormGround, LiteralFault, RecordFault};
 pub use field::{read_mode, read_modes, read_words};
 pub use head::{BookKind, Books, NoSuchBook, Observers, TooManyObservers};

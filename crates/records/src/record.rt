@@ -115,7 +115,7 @@ impl<'a> Record<'a> {
 }
 
 /// Takes the first record off the bytes that are left from a place on: the number of its kind, its
-/// body, and what is left after it.
+/// body, and what is left after it. Its head is taken off by a slice pattern, in place.
 pub fn take_record<'a>(
     bytes: &'a [u8],
     place: usize,
@@ -124,8 +124,8 @@ pub fn take_record<'a>(
 {
     match bytes {
         [l0, l1, k0, k1, rest @ ..] => {
-            let length = usize::from(*l0) + 256 * usize::from(*l1);
-            let kind = u16::from(*k0) + 256 * u16::from(*k1);
+            let length = usize::from(u16::from_le_bytes([*l0, *l1]));
+            let kind = u16::from_le_bytes([*k0, *k1]);
             if length > rest.len() {
                 return Err(DossierFault::CutShort { place });
             }

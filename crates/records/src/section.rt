@@ -18,7 +18,8 @@ pub enum Section {
 }
 
 impl Section {
-    /// The section that a record of this kind leads to, if it may come here.
+    /// The section that a record of this kind leads to, if it may come here: matched on both, so that the
+    /// order of the records can be read off.
     pub fn next(self, kind: RecordKind) -> Option<Section>
         ensures { result ≡ (if among self (comes_after kind) then Some (leads_to kind) else None) }
     {
