@@ -37,7 +37,7 @@ pub fn read_literal(
     ensures { LiteralRead role variables four place result }
 {
     let [number, relation, x, y] = four;
-    let Some(kind) = LiteralKind::new(number) else {
+    let Ok(kind) = LiteralKind::try_from(number) else {
         return Err(LiteralFault::Kind { place });
     };
     if !role.allows(kind) {
@@ -91,13 +91,13 @@ pub fn read_atom(four: [u8; 4], place: usize) -> Result<Atom, FieldFault>
     if relation >= RELATIONS || first >= OBJECTS {
         return Err(fault);
     }
-    if number == LiteralKind::Unary.number() && second == 0 {
+    if number == u8::from(LiteralKind::Unary) && second == 0 {
         return Ok(Atom::Unary {
             relation,
             object: first,
         });
     }
-    if number == LiteralKind::Binary.number() && second < OBJECTS {
+    if number == u8::from(LiteralKind::Binary) && second < OBJECTS {
         return Ok(Atom::Binary {
             relation,
             first,
