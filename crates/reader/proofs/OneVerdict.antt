@@ -1,5 +1,5 @@
 -- A file comes to one verdict: where its records stop being in form is computed by a function.
-use Rattle.std.proofs.Common.{◌≡◌, ℕ, ◌+◌, ◌<◌, ◌≤◌, Bool, true, false, cond, eqb, ltb, List, length, drop, Some, None, Ok, Err, Option, Result, sym, refl, ap, ◌∙◌, subst, inl, inr, arith}
+use Rattle.std.proofs.Common.{◌≡◌, ℕ, ◌+◌, ◌<◌, ◌≤◌, Bool, true, false, cond, eqb, ltb, ◌⊎◌, List, length, drop, Some, None, Ok, Err, Option, Result, sym, refl, ap, ◌∙◌, subst, inl, inr, arith}
 use Rattle.std.proofs.lemmas.Bool.{cond-true, cond-false, cases_lt, ne_eqb, lt-ltb, le-ltb}
 use Rattle.records.specs.declared.Books.{Books}
 use Rattle.records.specs.declared.FormGround.{FormGround}
@@ -13,15 +13,20 @@ use Rattle.records.specs.Number.{record_number, NoRecord}
 use Rattle.records.specs.Bytes.{length_at, kind_at, body_at}
 use Rattle.records.specs.Order.{section_number}
 use Rattle.drafting.specs.Progress.{Progress, start, allowed, long, ranged, advance}
-use Rattle.reader.proofs.SomeVerdict.{comes_to}
+use Rattle.reader.proofs.Sections.{same_section}
+use Rattle.reader.proofs.SomeVerdict.{known, comes_to}
 use Rattle.reader.specs.Form.{most_bytes, StandsAt, At, begins, more, Faulty, too_long, cut_short, unknown_kind, misplaced, after_end, wrong_length, out_of_range, Verdict, OneVerdict}
 
 -- The kind with a number.
+chosen : {n : ℕ} → ((k : RecordKind) × (n ≡ record_number k)) ⊎ NoRecord n → Option RecordKind
+chosen (inl x) = Some x.0
+chosen (inr _) = None
+
 kind_of : ℕ → Option RecordKind
-kind_of n = cond (eqb n (record_number kind.Head)) (Some kind.Head) (cond (eqb n (record_number kind.Opening)) (Some kind.Opening) (cond (eqb n (record_number kind.Rule)) (Some kind.Rule) (cond (eqb n (record_number kind.Row)) (Some kind.Row) (cond (eqb n (record_number kind.Moves)) (Some kind.Moves) (cond (eqb n (record_number kind.ObserverRow)) (Some kind.ObserverRow) (cond (eqb n (record_number kind.Entry)) (Some kind.Entry) (cond (eqb n (record_number kind.End)) (Some kind.End) (None))))))))
+kind_of n = chosen (known n)
 
 of_kind : (k : RecordKind) → kind_of (record_number k) ≡ Some k
-unfolding kind_of
+unfolding kind_of chosen known
 of_kind kind.Head = refl
 of_kind kind.Opening = refl
 of_kind kind.Rule = refl
@@ -31,9 +36,14 @@ of_kind kind.ObserverRow = refl
 of_kind kind.Entry = refl
 of_kind kind.End = refl
 
+chosen_none : {n : ℕ} (s : ((k : RecordKind) × (n ≡ record_number k)) ⊎ NoRecord n) → NoRecord n → chosen s ≡ None
+unfolding chosen
+chosen_none (inl x) none = absurd (none x.0 (sym x.1))
+chosen_none (inr _) none = refl
+
 of_none : (n : ℕ) → NoRecord n → kind_of n ≡ None
 unfolding kind_of
-of_none n none = cond-false {A = Option RecordKind} (eqb n (record_number kind.Head)) (Some kind.Head) _ (ne_eqb n (record_number kind.Head) (λ e. none kind.Head (sym e))) ∙ cond-false {A = Option RecordKind} (eqb n (record_number kind.Opening)) (Some kind.Opening) _ (ne_eqb n (record_number kind.Opening) (λ e. none kind.Opening (sym e))) ∙ cond-false {A = Option RecordKind} (eqb n (record_number kind.Rule)) (Some kind.Rule) _ (ne_eqb n (record_number kind.Rule) (λ e. none kind.Rule (sym e))) ∙ cond-false {A = Option RecordKind} (eqb n (record_number kind.Row)) (Some kind.Row) _ (ne_eqb n (record_number kind.Row) (λ e. none kind.Row (sym e))) ∙ cond-false {A = Option RecordKind} (eqb n (record_number kind.Moves)) (Some kind.Moves) _ (ne_eqb n (record_number kind.Moves) (λ e. none kind.Moves (sym e))) ∙ cond-false {A = Option RecordKind} (eqb n (record_number kind.ObserverRow)) (Some kind.ObserverRow) _ (ne_eqb n (record_number kind.ObserverRow) (λ e. none kind.ObserverRow (sym e))) ∙ cond-false {A = Option RecordKind} (eqb n (record_number kind.Entry)) (Some kind.Entry) _ (ne_eqb n (record_number kind.Entry) (λ e. none kind.Entry (sym e))) ∙ cond-false {A = Option RecordKind} (eqb n (record_number kind.End)) (Some kind.End) _ (ne_eqb n (record_number kind.End) (λ e. none kind.End (sym e)))
+of_none n none = chosen_none (known n) none
 
 ended : Section → Bool
 ended s = eqb (section_number s) (section_number section.End)
@@ -44,15 +54,7 @@ of_end = refl
 
 of_unended : (s : Section) → (s ≡ section.End → ⊥) → ended s ≡ false
 unfolding ended
-of_unended section.Start n = refl
-of_unended section.Head n = refl
-of_unended section.Opening n = refl
-of_unended section.Rules n = refl
-of_unended section.Rows n = refl
-of_unended section.Moves n = refl
-of_unended section.ObserverRows n = refl
-of_unended section.Entries n = refl
-of_unended section.End n = absurd (n refl)
+of_unended s n = ne_eqb (section_number s) (section_number section.End) (λ e. n (same_section s section.End e))
 
 fault : FormGround → ℕ → Option (Result Progress FormFault)
 fault g p = Some (Err (record { reason = g; place = p }))

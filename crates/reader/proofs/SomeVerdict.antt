@@ -1,6 +1,6 @@
 -- A file that is not too long comes to some verdict: record by record, until one is at fault or the end has come.
 use Rattle.std.proofs.Common.{◌≡◌, ℕ, zero, suc, ◌+◌, ◌≤◌, Bool, true, false, ◌⊎◌, List, length, drop, Ok, Err, Result, refl, ap, inl, inr, arith}
-use Rattle.std.proofs.lemmas.Bool.{cases_lt}
+use Rattle.std.proofs.lemmas.Bool.{cases_lt, cases_eq}
 use Rattle.records.specs.declared.Books.{Books}
 use Rattle.records.specs.declared.FormFault.{FormFault}
 use Rattle.records.specs.declared.RecordKind.{RecordKind}
@@ -11,9 +11,11 @@ use Rattle.records.specs.Number.{record_number, NoRecord}
 use Rattle.records.specs.Bytes.{length_at, kind_at, body_at}
 use Rattle.records.specs.Order.{section_number}
 use Rattle.drafting.specs.Progress.{Progress, start, allowed, long, ranged, advance}
+use Rattle.reader.proofs.Sections.{same_section}
+use Rattle.reader.proofs.Well.{place_within}
 use Rattle.reader.specs.Form.{most_bytes, StandsAt, At, begins, more, cut_short, unknown_kind, misplaced, after_end, wrong_length, out_of_range, Verdict}
 
-numbered : (k : RecordKind) → (1 ≤ record_number k) × (record_number k ≤ 8)
+pub numbered : (k : RecordKind) → (1 ≤ record_number k) × (record_number k ≤ 8)
 numbered kind.Head = (omega arith, omega arith)
 numbered kind.Opening = (omega arith, omega arith)
 numbered kind.Rule = (omega arith, omega arith)
@@ -24,7 +26,7 @@ numbered kind.Entry = (omega arith, omega arith)
 numbered kind.End = (omega arith, omega arith)
 
 -- A number is that of a kind, or of none.
-known : (n : ℕ) → ((k : RecordKind) × (n ≡ record_number k)) ⊎ NoRecord n
+unfoldable pub known : (n : ℕ) → ((k : RecordKind) × (n ≡ record_number k)) ⊎ NoRecord n
 known zero = inr (λ k e. omega (arith, (numbered k).0))
 known (suc zero) = inl (kind.Head, refl)
 known (suc (suc zero)) = inl (kind.Opening, refl)
@@ -38,23 +40,11 @@ known (suc (suc (suc (suc (suc (suc (suc (suc (suc n))))))))) = inr (λ k e. ome
 
 -- The end has come, or it has not.
 end_or_not : (s : Section) → (s ≡ section.End) ⊎ (s ≡ section.End → ⊥)
-end_or_not section.Start = inr (λ e. omega (arith, ap section_number e))
-end_or_not section.Head = inr (λ e. omega (arith, ap section_number e))
-end_or_not section.Opening = inr (λ e. omega (arith, ap section_number e))
-end_or_not section.Rules = inr (λ e. omega (arith, ap section_number e))
-end_or_not section.Rows = inr (λ e. omega (arith, ap section_number e))
-end_or_not section.Moves = inr (λ e. omega (arith, ap section_number e))
-end_or_not section.ObserverRows = inr (λ e. omega (arith, ap section_number e))
-end_or_not section.Entries = inr (λ e. omega (arith, ap section_number e))
-end_or_not section.End = inl refl
+end_or_not s = elim (cases_eq (section_number s) (section_number section.End)) [ inl e ↦ inl (same_section s section.End e) | inr n ↦ inr (λ e. n (ap section_number e)) ]
 
 module _ (books : Books) (bytes : List ℕ) (short : length bytes ≤ most_bytes) where
   abbrev SomeVerdict : Type 0
   SomeVerdict = (v : Result Progress FormFault) × Verdict books bytes v
-
-  at_within : {p : ℕ} {g : Progress} → At books bytes p g → p ≤ length bytes
-  at_within begins = omega arith
-  at_within (more at s a l r) = s.whole
 
   module _ (p : ℕ) (g : Progress) (at : At books bytes p g) where
     -- After the record at this place.
@@ -90,7 +80,7 @@ module _ (books : Books) (bytes : List ℕ) (short : length bytes ≤ most_bytes
       ended_here : g.section ≡ section.End → SomeVerdict
       ended_here e = elim (cases_lt p (length bytes)) [
         | inl h ↦ (Err _, after_end short at e h)
-        | inr h ↦ let all : p ≡ length bytes = omega (arith, at_within at) in (Ok g, record { short = short; read = rw all at at; ended = e })
+        | inr h ↦ let all : p ≡ length bytes = omega (arith, place_within bytes at) in (Ok g, record { short = short; read = rw all at at; ended = e })
       ]
 
       here : SomeVerdict
@@ -101,7 +91,7 @@ module _ (books : Books) (bytes : List ℕ) (short : length bytes ≤ most_bytes
 
   -- At most so many bytes are left.
   within : (n p : ℕ) (g : Progress) → At books bytes p g → length bytes ≤ p + n → SomeVerdict
-  within zero p g at h = here p g at (λ k next. absurd (omega (arith, at_within next)))
+  within zero p g at h = here p g at (λ k next. absurd (omega (arith, place_within bytes next)))
   within (suc n) p g at h = here p g at (λ k next. within n (p + (4 + length_at (drop p bytes))) (advance g k (body_at (drop p bytes))) next (omega arith))
 
   pub comes_to : SomeVerdict
