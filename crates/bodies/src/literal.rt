@@ -66,6 +66,7 @@ fn second_fits(kind: LiteralKind, variables: u8, y: u8) -> bool
 }
 
 /// The literal of a kind.
+// No `From`: it takes four numbers, of which the last means nothing for most kinds.
 fn literal(kind: LiteralKind, relation: u8, x: u8, y: u8) -> Literal
     ensures { result ≡ shaped kind relation x y }
 {

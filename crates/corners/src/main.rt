@@ -27,13 +27,11 @@ fn print_line(rt: &HostRuntime, bytes: &[u8]) -> anyhow::Result<()> {
 
 /// The bytes that hexadecimal digits stand for, two digits a byte; anything else counts as the digit 0.
 fn decoded(heap: Global, text: &[u8]) -> Result<Vec<u8>, AllocError> {
-    let mut bytes = Vec::new(heap);
-    let mut left = text;
-    while let [high, low, rest @ ..] = left {
-        bytes.push(16 * digit(*high) + digit(*low))?;
-        left = rest;
-    }
-    Ok(bytes)
+    let (pairs, _) = text.as_chunks::<2>();
+    pairs
+        .iter()
+        .map(|[high, low]| 16 * digit(*high) + digit(*low))
+        .collect(heap)
 }
 
 /// The value of a hexadecimal digit.

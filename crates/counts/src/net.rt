@@ -16,6 +16,8 @@ pub const MAX_PLACES: usize = 12;
 const MAX_HELD: u32 = 65535;
 
 /// A rule: what it takes from each place, and what it gives.
+// Two lists and not one of pairs: a rule whose lists differ in length is refused by `Counts::new`, and a
+// list of pairs would ask that of the caller.
 #[derive(Drop)]
 pub struct Rule {
     pub takes: Vec<u8>,
@@ -123,6 +125,7 @@ impl Net {
         Some((self.row(case.row)?, self.rule(case.rule)?))
     }
 
+    // Beside `rows_fit`: each is one call, and the contract says what it decides of plain data.
     /// Whether each rule takes and gives at each of so many places.
     fn rules_fit(&self, places: usize) -> bool
         ensures { Decides result ((rule : ℕ) → rule < length (book_of self.now).rules → RuleFits places (rule_at (book_of self.now) rule)) }

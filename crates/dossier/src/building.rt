@@ -43,10 +43,7 @@ fn build_counts(heap: Global, net: Net, layers: Layers) -> Result<Piled<Counts>,
         Err(NetRefusal::OutOfMemory) => return Err(AllocError),
         Err(_) => unreachable(),
     };
-    match pile(counts, layers) {
-        Ok(kind) => Ok(kind),
-        Err(_) => unreachable(),
-    }
+    Ok(pile(counts, layers).unwrap())
 }
 
 /// Makes the kind of a book of atoms in range.
@@ -55,12 +52,6 @@ fn build_atoms(book: Book, layers: Layers) -> Piled<AtomSystem>
     requires observers { PileIn (atoms_meaning (atomic.book_of book)) (atomic.book_of book) (layers_of layers) }
     ensures { piled_book result ≡ pile_book (atomic.book_of book) (layers_of layers) }
 {
-    let system = match AtomSystem::new(book) {
-        Ok(system) => system,
-        Err(_) => unreachable(),
-    };
-    match pile(system, layers) {
-        Ok(kind) => kind,
-        Err(_) => unreachable(),
-    }
+    let system = AtomSystem::new(book).unwrap();
+    pile(system, layers).unwrap()
 }

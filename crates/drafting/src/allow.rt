@@ -72,7 +72,7 @@ impl Draft {
             (RecordKind::Moves, book) => length % Mode::COUNT == 0
                 && length / Mode::COUNT == book.rule_count(),
             (RecordKind::ObserverRow, _) => length == 2,
-            (RecordKind::Entry, _) => 1 <= length && length <= 1 + MAX_MATCHING,
+            (RecordKind::Entry, _) => (1..=1 + MAX_MATCHING).contains(&length),
             (RecordKind::End, _) => length == 0,
         }
     }

@@ -30,6 +30,8 @@ impl DraftBook {
         }
     }
 
+    // The methods ask the book that there is. They are alike but for the method, and the two types of books
+    // have no trait in common.
     /// How many rules there are so far.
     pub fn rule_count(&self) -> usize
         ensures { result ≡ rule_count (draft_book_of self.now) }

@@ -52,6 +52,7 @@ impl Draft {
         })
     }
 
+    // Beside `take_row`: one function over both would take the step, the section and the clause.
     /// A rule of the book.
     fn take_rule(self, heap: Global, body: Body<'_>) -> Result<Draft, RecordFault>
         requires { long (progress_of self) RuleKind body.bytes.now ≡ true }

@@ -9,6 +9,7 @@ ghost use Rattle.either_kind.specs.Sides.{left_back, left_forth, right_back, rig
 use crate::sum::Either;
 use pattern::{Case, Covering, FireRefusal, LookRefusal, PatternKind, Sort};
 
+// Each method asks the side that there is. They are alike but for the method, which no bound names.
 impl<A: PatternKind, B: PatternKind> PatternKind for Either<A, B> {
     ghost State = { A.PatternKind.State ⊎ B.PatternKind.State };
 

@@ -1,5 +1,5 @@
 -- Each worked example, computed.
-use Rattle.std.proofs.Common.{◌≡◌, ℕ, zero, suc, [], refl, arith}
+use Rattle.std.proofs.Common.{◌≡◌, ℕ, zero, suc, refl, arith}
 use Rattle.judge.specs.Acceptance.{Clear, none, next}
 use Rattle.counts.specs.Net.{◌⊑◌, after, Held}
 use Rattle.counts.specs.Counted.{takes_of, gives_of, fires, counted_meaning}

@@ -3,6 +3,7 @@ ghost use Rattle.judge.specs.Acceptance.{claims, Met, LowestStanding, Walked, Ve
 use crate::table::{Entry, TableGround, TableRefusal};
 use pattern::{Case, Covering, PatternKind, Sort};
 
+// The kind and the entries stay two parameters: each of the three functions that take both has one call.
 /// Judges a table of entries over a pattern kind: accepted, or its first failure.
 pub fn judge<K: PatternKind>(kind: &K, entries: &[Entry]) -> Result<(), TableRefusal>
     ensures { Verdict (K.meaning (K.book kind.now)) (claims entries.now) result }
@@ -48,6 +49,7 @@ fn walk<K: PatternKind>(kind: &K, entries: &[Entry]) -> Result<usize, TableRefus
     ensures { Walked (K.meaning (K.book kind.now)) (claims entries.now) result }
 {
     let mut used = 0;
+    // Nested loops left by a label, as the walk is told: a rule of the project.
     'walk: {
         for row in 0..kind.rows() {
             for rule in 0..kind.rules() {

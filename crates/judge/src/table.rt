@@ -38,7 +38,8 @@ impl From<TableGround> for u8 {
     }
 }
 
-/// The first failure of a table: its ground, the case and the number of the entry. What does not apply is 0.
+/// The first failure of a table: its ground, the case and the number of the entry. What does not apply is
+/// 0: one struct and no enum of the grounds, since all of its numbers are reported at each.
 #[derive(Clone, Copy, PartialEq, Eq, Debug)]
 pub struct TableRefusal {
     pub reason: TableGround,

@@ -5,6 +5,8 @@ use pattern::PatternKind;
 use thiserror::Error;
 
 /// A pattern kind with an observer: a mode that moves at each firing, by the rule and the mode.
+// The moves are one list, as they are handed in, and not four for each rule: a list of another length is
+// refused by `over`, and a type that has none would ask that of the caller.
 #[derive(Drop)]
 pub struct Observer<K: PatternKind> {
     pub(super) below: K,

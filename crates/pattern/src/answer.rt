@@ -35,7 +35,8 @@ pub enum Sort {
     Open,
 }
 
-/// What a matching says of a case and a named row.
+/// What a matching says of a case and a named row. One of three answers, and no `Result`: that it does
+/// not cover is no failure of the question.
 #[derive(Clone, Copy, PartialEq, Eq, Debug)]
 pub enum Covering {
     /// It is no matching of the named row into the case.

@@ -10,6 +10,7 @@ pub const MAX_ROWS: usize = 64;
 /// The most cases of one row and one rule.
 pub const MAX_CASES: usize = 16_777_216;
 
+// Two functions, and not one over its limit: each is one call of std's and has a name of its own.
 /// Whether a pattern kind may have so many rules.
 pub fn rules_allowed(rules: usize) -> bool
     ensures { Decides result (RulesAllowed rules) }

@@ -51,6 +51,7 @@ impl<'a> RuleIntoRow<'a> {
         ensures { result.items ≡ renaming (rule_of self.now) (row_of self.now) number }
     {
         let base = usize::from(self.variables());
+        // A `for`: a chain would carry `rest` in a closure that changes it.
         let mut names = ArrayVec::new();
         let mut rest = number;
         for _ in 0..self.rule.variables {

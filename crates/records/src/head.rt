@@ -48,7 +48,7 @@ impl Books {
     }
 }
 
-/// How many observers a dossier has.
+/// How many observers a dossier has. No plain number, nor an `Option`: the type has the limit of two.
 #[derive(Clone, Copy, PartialEq, Eq, Debug)]
 pub enum Observers {
     None = 0,

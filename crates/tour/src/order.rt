@@ -1,5 +1,5 @@
 // Faults that are an order of firings, by observers over the pump's book.
-use crate::pump::{TOKEN_AND_WAITING, book_with, entry, row};
+use crate::pump::{TOKEN_AND_WAITING, book_with, entries, row};
 use counts::Counts;
 use judge::Entry;
 use observer::{Mode, Observer, ObserverRow};
@@ -28,11 +28,6 @@ fn pairs(heap: Global, rows: &[(usize, Mode)]) -> anyhow::Result<Vec<ObserverRow
         mode: *mode,
     });
     Ok(pairs.collect(heap)?)
-}
-
-/// Entries that name these rows.
-fn entries(heap: Global, rows: &[usize]) -> anyhow::Result<Vec<Entry>> {
-    Ok(rows.iter().map(|row| entry(heap, *row)).collect(heap)?)
 }
 
 /// Modes: 0 not held since the last release, 1 held once, 2 held twice in a row.

@@ -50,31 +50,23 @@ pub fn book(heap: Global) -> anyhow::Result<Counts> {
     book_with(heap, TOKEN_AND_WAITING, rows)
 }
 
-pub fn entry(heap: Global, row: usize) -> Entry {
-    Entry {
-        row,
+/// Entries that name these rows.
+pub fn entries(heap: Global, rows: &[usize]) -> anyhow::Result<Vec<Entry>> {
+    let entries = rows.iter().map(|row| Entry {
+        row: *row,
         matching: Vec::new(heap),
-    }
+    });
+    Ok(entries.collect(heap)?)
 }
 
 /// The entries of the open cases, in walk order.
 pub fn table(heap: Global) -> anyhow::Result<Vec<Entry>> {
-    Ok(vec![in heap;
-        entry(heap, 1),
-        entry(heap, 2),
-        entry(heap, 0),
-        entry(heap, 1),
-    ]?)
+    entries(heap, &[1, 2, 0, 1])
 }
 
 /// The same with the second entry wrong.
 pub fn wrong_table(heap: Global) -> anyhow::Result<Vec<Entry>> {
-    Ok(vec![in heap;
-        entry(heap, 1),
-        entry(heap, 1),
-        entry(heap, 0),
-        entry(heap, 1),
-    ]?)
+    entries(heap, &[1, 1, 0, 1])
 }
 
 pub fn fire(heap: Global, rule: usize) -> Call {
