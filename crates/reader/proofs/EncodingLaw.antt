@@ -1,5 +1,5 @@
 -- A file is in form exactly where it is the encoding of a dossier in range.
-use Rattle.std.proofs.Common.{ℕ, ◌≤◌, List, length, get_or, arith, w8, Fits}
+use Rattle.std.proofs.Common.{ℕ, ◌≤◌, List, get_or, arith, w8, Fits}
 use Rattle.std.proofs.ByRecursion.{All-from_get_or}
 use Rattle.records.specs.declared.Books.{Books}
 use Rattle.reader.specs.Dossier.{Bytes}

@@ -1,13 +1,12 @@
 -- Which books a file may hold stays as it was, and the file holds such a book.
-use Rattle.std.proofs.Common.{◌≡◌, ℕ, true, List, get_or, drop, leb, refl, ap, ◌∙◌, subst}
+use Rattle.std.proofs.Common.{◌≡◌, ℕ, true, List, get_or, drop, leb, refl, subst}
 use Rattle.std.proofs.lemmas.Bool.{and_parts}
 use Rattle.records.specs.declared.Books.{Books}
 use Rattle.records.specs.declared.Books.TheVariants.{Counted, Any}
 use Rattle.records.specs.declared.RecordKind.{RecordKind}
 use Rattle.records.specs.declared.RecordKind.TheVariants as kind
 use Rattle.records.specs.Bytes.{body_at}
-use Rattle.records.specs.Number.{hold}
-use Rattle.drafting.specs.Book.{Book, counted, atomic, none, book_kind, places_in, with_opening, with_rule, with_row}
+use Rattle.drafting.specs.Book.{Book, counted, atomic, none, places_in, with_opening, with_rule, with_row}
 use Rattle.drafting.specs.Progress.{Progress, ranged, advance}
 use Rattle.reader.specs.Dossier.{Holds}
 use Rattle.reader.specs.Form.{At, begins, more}

@@ -7,7 +7,6 @@ use Rattle.records.specs.declared.RecordFault.TheVariants.{KindNotAllowed}
 use Rattle.records.specs.Bytes.{length_at}
 use Rattle.records.specs.Number.{record_number, NoRecord}
 use Rattle.records.proofs.Unmapped.{err_before}
-use Rattle.drafting.specs.Progress.{Progress}
 use Rattle.drafting.specs.Drafted.{progress_of}
 use Rattle.drafting.proofs.Taking.{answered_of}
 use Rattle.reader.specs.Form.{At, begins, too_long}

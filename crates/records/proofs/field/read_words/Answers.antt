@@ -1,7 +1,6 @@
-use Rattle.std.proofs.Common.{◌≡◌, ◌/◌, map, length, IfOk, w16, vec_items, refl, ◌∙◌, rules}
+use Rattle.std.proofs.Common.{◌≡◌, ◌/◌, map, length, IfOk, w16, vec_items, refl, rules}
 use Rattle.std.specs.Int.{from_le_bytes}
 use Rattle.std.specs.Simd.{first_chunks}
-use Rattle.std.proofs.lemmas.Result.{IfOk-equal}
 use Rattle.records.proofs.Words.{words_by}
 use Rattle.records.proofs.field.read_words.Goals as goal
 
