@@ -27,7 +27,7 @@ impl Role {
 }
 
 /// The literal of four bytes (kind, relation, first and second variable) over so many variables, in
-/// the record at a place.
+/// the record at a place. Role and variables are no struct: it would be made anew for each list.
 pub fn read_literal(
     role: Role,
     variables: u8,

@@ -1,3 +1,2 @@
 pub mod Heads
-pub mod Pushing
 pub mod Taking
