@@ -1,6 +1,6 @@
 -- What an injective renaming keeps in both directions, and renamings that agree.
 use Rattle.std.specs.Prelude.{◌≡◌, ℕ, ◌<◌, Bool, true, false, not, ◌&&◌, List, [], ◌∷◌, map, ◌==◌, refl}
-use Rattle.std.proofs.Common.{ap, ◌∙◌}
+use Rattle.std.proofs.Common.{ap}
 use Rattle.std.specs.List.{AllByRecursion}
 use Rattle.std.proofs.ByRecursion.{All-weaker}
 use Rattle.std.proofs.lemmas.Bool.Decides.{same_from_decides, Decides-like, Decides-eqb}
@@ -16,17 +16,15 @@ use Rattle.predecessor.specs.Earlier.{loosens, thins, loosened}
 
 module _ (n : ℕ) (p q : ℕ → ℕ) (agree : (x : ℕ) → x < n → p x ≡ q x) where
   fact_agrees : (f : Fact) → FactIn n f → fact_under p f ≡ fact_under q f
-  fact_agrees (Unary a x) h = ap {B = Fact} (λ (y : ℕ). Unary a y) (agree x h.1)
-  fact_agrees (Binary b x y) h = ap {B = Fact} (λ (z : ℕ). Binary b z (p y)) (agree x h.1) ∙ ap {B = Fact} (λ (z : ℕ). Binary b (q x) z) (agree y h.2)
-  fact_agrees (From b x) h = ap {B = Fact} (λ (y : ℕ). From b y) (agree x h.1)
-  fact_agrees (Into b x) h = ap {B = Fact} (λ (y : ℕ). Into b y) (agree x h.1)
+  fact_agrees (Unary a x) h = cc (agree x h.1)
+  fact_agrees (Binary b x y) h = cc (agree x h.1, agree y h.2)
+  fact_agrees (From b x) h = cc (agree x h.1)
+  fact_agrees (Into b x) h = cc (agree x h.1)
 
   -- Renamings that agree on the first n variables do the same to literals over them.
   pub agreeing : (ls : List Literal) → AllByRecursion (LiteralIn n) ls → map (under p) ls ≡ map (under q) ls
   agreeing [] h = refl
-  agreeing (l ∷ ls) h =
-      ap {B = List Literal} (λ (f : Fact). record { fact = f; affirmed = l.affirmed } ∷ map (under p) ls) (fact_agrees l.fact h.0)
-      ∙ ap {B = List Literal} (λ (ks : List Literal). under q l ∷ ks) (agreeing ls h.1)
+  agreeing (l ∷ ls) h = cc (fact_agrees l.fact h.0, agreeing ls h.1)
 
 module _ (n : ℕ) (p : ℕ → ℕ) (different : Different n p) where
   -- different variables stay different
@@ -42,8 +40,7 @@ module _ (n : ℕ) (p : ℕ → ℕ) (different : Different n p) where
   implies_under (Unary a x) (From b y) g f = refl
   implies_under (Unary a x) (Into b y) g f = refl
   implies_under (Binary a x w) (Unary b y) g f = refl
-  implies_under (Binary a x w) (Binary b y z) g f =
-      ap (λ (u : Bool). (a == b) && (u && p w == p z)) (same_test x y g.1 f.1) ∙ ap (λ (u : Bool). (a == b) && u) (both_test (x == y) w z g.2 f.2)
+  implies_under (Binary a x w) (Binary b y z) g f = cc (same_test x y g.1 f.1, same_test w z g.2 f.2)
   implies_under (Binary a x w) (From b y) g f = both_test (a == b) x y g.1 f.1
   implies_under (Binary a x w) (Into b y) g f = both_test (a == b) w y g.2 f.1
   implies_under (From a x) (Unary b y) g f = refl

@@ -1,6 +1,6 @@
 -- The number that has given digits.
 use Rattle.std.specs.Prelude.{◌≡◌, ℕ, zero, suc, ◌+◌, ◌*◌, ◌/◌, ◌^◌, ◌<◌, ◌≤◌, List, [], ◌∷◌, length, refl}
-use Rattle.std.proofs.Common.{ap, ◌∙◌, pow-suc, arith}
+use Rattle.std.proofs.Common.{pow-suc, arith}
 use Rattle.std.proofs.Math.Nat.{pow-zero}
 use Rattle.std.specs.List.{AllByRecursion}
 use Rattle.std.proofs.lemmas.Nat.{mul-add-lt, div-mul-add, mod-mul-add, mod_below}
@@ -13,10 +13,7 @@ number_of base (d ∷ ds) = number_of base ds * base + d
 
 pub digits_of_number : (base : ℕ) (ds : List ℕ) → AllByRecursion (λ d. d < base) ds → digits base (length ds) (number_of base ds) ≡ ds
 digits_of_number base [] h = refl
-digits_of_number base (d ∷ ds) h =
-    ap {B = List ℕ} (λ (x : ℕ). x ∷ digits base (length ds) ((number_of base ds * base + d) / base)) (mod-mul-add (number_of base ds) base d h.0)
-    ∙ ap {B = List ℕ} (λ (x : ℕ). d ∷ digits base (length ds) x) (div-mul-add (number_of base ds) base d h.0)
-    ∙ ap {B = List ℕ} (λ (xs : List ℕ). d ∷ xs) (digits_of_number base ds h.1)
+digits_of_number base (d ∷ ds) h = cc (mod-mul-add (number_of base ds) base d h.0, div-mul-add (number_of base ds) base d h.0, digits_of_number base ds h.1)
 
 pub number_below : (base : ℕ) (ds : List ℕ) → AllByRecursion (λ d. d < base) ds → number_of base ds < base ^ length ds
 number_below base [] h = omega (arith, pow-zero base)
