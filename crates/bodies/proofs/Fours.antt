@@ -5,7 +5,7 @@ use Rattle.std.specs.Simd.{first_chunks}
 use Rattle.std.specs.declared.alloc.Global.{Global}
 use Rattle.records.specs.declared.RecordFault.{RecordFault}
 use Rattle.records.specs.declared.RecordFault.TheVariants.{KindNotAllowed, WrongLength, Field, Literal, OutOfMemory}
-use Rattle.records.specs.Each.{SomeGives, EachRead}
+use Rattle.records.specs.Each.{FirstGives, EachRead}
 use Rattle.records.proofs.Items.{some_here, all_said, some_out}
 use Rattle.bodies.specs.Literal.{of_four}
 use Rattle.bodies.specs.Lists.{each_four, all_four, Taken}
@@ -43,10 +43,10 @@ module _ {X : Type 0} (Gives : List ℕ → Result X RecordFault → Type 0) (p 
   abbrev Law : Type 0
   Law = (four : List ℕ) (s : Result X RecordFault) → Gives four s → Taken (λ x. x) (of_four p four) (of_four f four) place s
 
-  out : (e : RecordFault) → ((four : List ℕ) → Gives four (Err e) → of_four p four ≡ false) → SomeGives Gives fours e → all_four p b ≡ false
+  out : (e : RecordFault) → ((four : List ℕ) → Gives four (Err e) → of_four p four ≡ false) → FirstGives Gives fours e → all_four p b ≡ false
   out e law h = sym (all_fours p (length b / 4) b refl) ∙ some_out Gives (of_four p) e law fours h
 
-  fault : (e : RecordFault) → SomeGives Gives fours e → Law → Taken (vec_items {Z = Global}) (all_four p b) (each_four f b) place (Err e)
+  fault : (e : RecordFault) → FirstGives Gives fours e → Law → Taken (vec_items {Z = Global}) (all_four p b) (each_four f b) place (Err e)
   fault (KindNotAllowed q) h law = some_here Gives ⊥ _ (λ n g. law n _ g) fours h
   fault (WrongLength q) h law = some_here Gives ⊥ _ (λ n g. law n _ g) fours h
   fault (Field q) h law = (some_here Gives _ _ (λ n g. (law n _ g).0) fours h, out _ (λ n g. (law n _ g).1) h)

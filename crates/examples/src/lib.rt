@@ -10,6 +10,8 @@ ghost use Rattle.examples.specs.Worked.{Worked, pump};
 mod counted;
 #[cfg(test)]
 mod observed;
+#[cfg(test)]
+mod reading;
 
 /// The worked examples hold of the definitions. The answer is how many open cases the book of one
 /// pump has: as many as its table needs entries.

@@ -8,7 +8,7 @@ use Rattle.observer.specs.declared.Mode.{Mode}
 use Rattle.records.specs.declared.fault.RecordFault.{RecordFault}
 use Rattle.records.specs.declared.fault.RecordFault.TheVariants.{KindNotAllowed, WrongLength, Field, Literal, OutOfMemory}
 use Rattle.records.specs.Field.{mode_of, Moded}
-use Rattle.records.specs.Each.{EachGives, SomeGives, EachRead}
+use Rattle.records.specs.Each.{EachGives, FirstGives, EachRead}
 
 module _ {X Y : Type 0} (Gives : X → Result Y RecordFault → Type 0) where
   after : (xs : List X) (ys : List Y) (x : X) (y : Y) → EachGives Gives xs ys → Gives x (Ok y) → EachGives Gives (xs ++ x ∷ []) (ys ++ y ∷ [])
@@ -24,15 +24,16 @@ module _ {X Y : Type 0} (Gives : X → Result Y RecordFault → Type 0) where
         let next : take (i + 1) xs ≡ take i xs ++ x ∷ [] = take_more xs i x here ∙ ap (λ (w : X). take i xs ++ w ∷ []) (sym is) in
         rw (e, next) (after (take i xs) ys x y inv h)
 
-  pub one_fails : (xs : List X) (i : ℕ) (x : X) (e : RecordFault) → i < length xs → x ≡ get_or xs i x → Gives x (Err e) → SomeGives Gives xs e
-  one_fails [] i x e here is h = absurd (omega arith)
-  one_fails (w ∷ xs) zero x e here is h = inl (subst (λ (z : X). Gives z (Err e)) is h)
-  one_fails (w ∷ xs) (suc i) x e here is h = inr (one_fails xs i x e (omega arith) is h)
+  pub one_fails : (xs : List X) (i : ℕ) (x : X) (e : RecordFault) (ys : List Y) → i < length xs → x ≡ get_or xs i x → EachGives Gives (take i xs) ys → Gives x (Err e) → FirstGives Gives xs e
+  one_fails [] i x e ys here is inv h = absurd (omega arith)
+  one_fails (w ∷ xs) zero x e ys here is inv h = inl (subst (λ (z : X). Gives z (Err e)) is h)
+  one_fails (w ∷ xs) (suc i) x e [] here is inv h = absurd inv
+  one_fails (w ∷ xs) (suc i) x e (y ∷ ys) here is inv h = inr (y, inv.0, one_fails xs i x e ys (omega arith) is inv.1 h)
 
   -- What holds wherever an item gives a fault holds where some item does.
-  pub some_here : (P : Type 0) (e : RecordFault) → ((x : X) → Gives x (Err e) → P) → (xs : List X) → SomeGives Gives xs e → P
+  pub some_here : (P : Type 0) (e : RecordFault) → ((x : X) → Gives x (Err e) → P) → (xs : List X) → FirstGives Gives xs e → P
   some_here P e law [] h = absurd h
-  some_here P e law (x ∷ xs) h = elim h [ inl this ↦ law x this | inr rest ↦ some_here P e law xs rest ]
+  some_here P e law (x ∷ xs) h = elim h [ inl this ↦ law x this | inr rest ↦ some_here P e law xs rest.2 ]
 
   -- All items are in range and say their values, or some item is out of range.
   pub all_said : (ok : X → Bool) (says : X → Y) → ((x : X) (y : Y) → Gives x (Ok y) → (ok x ≡ true) × (y ≡ says x)) → (xs : List X) (ys : List Y) → EachGives Gives xs ys → (list_all ok xs ≡ true) × (ys ≡ map says xs)
@@ -44,9 +45,9 @@ module _ {X Y : Type 0} (Gives : X → Result Y RecordFault → Type 0) where
       let rest = all_said ok says law xs ys h.1 in
       (and_from (ok x) (list_all ok xs) this.0 rest.0, (λ j. this.1 j ∷ rest.1 j))
 
-  pub some_out : (ok : X → Bool) (e : RecordFault) → ((x : X) → Gives x (Err e) → ok x ≡ false) → (xs : List X) → SomeGives Gives xs e → list_all ok xs ≡ false
+  pub some_out : (ok : X → Bool) (e : RecordFault) → ((x : X) → Gives x (Err e) → ok x ≡ false) → (xs : List X) → FirstGives Gives xs e → list_all ok xs ≡ false
   some_out ok e law [] h = absurd h
-  some_out ok e law (x ∷ xs) h = elim h [ inl this ↦ and_left (ok x) (list_all ok xs) (law x this) | inr rest ↦ and_right (ok x) (list_all ok xs) (some_out ok e law xs rest) ]
+  some_out ok e law (x ∷ xs) h = elim h [ inl this ↦ and_left (ok x) (list_all ok xs) (law x this) | inr rest ↦ and_right (ok x) (list_all ok xs) (some_out ok e law xs rest.2) ]
 
 -- What is read of a byte as a mode.
 abbrev pub ModeGiven : ℕ → ℕ → Result Mode RecordFault → Type 0
@@ -58,7 +59,7 @@ ModeGiven place n (Err (Literal f)) = ⊥
 ModeGiven place n (Err OutOfMemory) = ⊥
 
 module _ (Gives : ℕ → Result Mode RecordFault → Type 0) (place : ℕ) where
-  mode_fault : (bytes : List ℕ) (e : RecordFault) → SomeGives Gives bytes e → ((n : ℕ) (r : Result Mode RecordFault) → Gives n r → ModeGiven place n r) → Moded bytes place (Err e)
+  mode_fault : (bytes : List ℕ) (e : RecordFault) → FirstGives Gives bytes e → ((n : ℕ) (r : Result Mode RecordFault) → Gives n r → ModeGiven place n r) → Moded bytes place (Err e)
   mode_fault bytes (KindNotAllowed p) h law = some_here Gives ⊥ _ (λ n g. law n _ g) bytes h
   mode_fault bytes (WrongLength p) h law = some_here Gives ⊥ _ (λ n g. law n _ g) bytes h
   mode_fault bytes (Field f) h law = (some_here Gives (f.place ≡ place) (Field f) (λ n g. (law n (Err (Field f)) g).0) bytes h, some_out Gives (λ n. leb n 3) (Field f) (λ n g. lt-leb n 3 (law n (Err (Field f)) g).1) bytes h)

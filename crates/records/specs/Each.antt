@@ -11,12 +11,12 @@ EachGives Gives [] (y ∷ ys) = ⊥
 EachGives Gives (x ∷ xs) [] = ⊥
 EachGives Gives (x ∷ xs) (y ∷ ys) = Gives x (Ok y) × EachGives Gives xs ys
 
--- Some item gives this fault.
-abbrev pub SomeGives : {X Y : Type 0} → (X → Result Y RecordFault → Type 0) → List X → RecordFault → Type 0
-SomeGives Gives [] e = ⊥
-SomeGives Gives (x ∷ xs) e = Gives x (Err e) ⊎ SomeGives Gives xs e
+-- Some item gives this fault, and those before it give values.
+abbrev pub FirstGives : {X Y : Type 0} → (X → Result Y RecordFault → Type 0) → List X → RecordFault → Type 0
+FirstGives Gives [] e = ⊥
+FirstGives {X} {Y} Gives (x ∷ xs) e = Gives x (Err e) ⊎ ((y : Y) × Gives x (Ok y) × FirstGives Gives xs e)
 
--- All values, or the fault of an item, or want of memory.
+-- All values, or the fault of the first item that gives one, or want of memory.
 pub record EachRead {X Y : Type 0} (Gives : X → Result Y RecordFault → Type 0) (xs : List X) (r : Result (Vec Y Global) RecordFault) : Type 0 where
   pub values : IfOk r (λ v. EachGives Gives xs (vec_items v))
-  pub fault : IfErr r (λ e. (e ≡ OutOfMemory) ⊎ SomeGives Gives xs e)
+  pub fault : IfErr r (λ e. (e ≡ OutOfMemory) ⊎ FirstGives Gives xs e)
