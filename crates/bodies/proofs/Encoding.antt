@@ -21,7 +21,8 @@ use Rattle.bodies.specs.declared.literal.Role.TheVariants.{Condition, Effect}
 use Rattle.bodies.specs.Literal.{kind_numbered, shaped, allows, second_in, kind_in, literal_in, literal_of, atom_in, atom_of}
 use Rattle.bodies.specs.Lists.{each_four, all_four, literals_in, literals_of, atoms_in, atoms_of}
 use Rattle.bodies.specs.Rule.{opening_fits, rule_fits, row_fits, condition_bytes, effect_bytes, rule_in, row_in, rule_of, row_of}
-use Rattle.bodies.specs.Encoding.{relation_of, first_of, second_of, literal_bytes, atom_bytes, rule_bytes, row_bytes}
+use Rattle.literals.specs.State.{relation_of}
+use Rattle.bodies.specs.Encoding.{first_of, second_of, literal_bytes, atom_bytes, rule_bytes, row_bytes}
 use Rattle.bodies.proofs.Numbering.{numbered}
 use Rattle.bodies.proofs.Ranging.{length_each, atom_cases, rule_long, conditions, effects, row_long}
 

@@ -6,18 +6,13 @@ use Rattle.literals.specs.declared.Fact.TheVariants as fact
 use Rattle.literals.specs.declared.Literal.{Literal}
 use Rattle.literals.specs.declared.LiteralKind.TheVariants.{Unary, Binary}
 use Rattle.literals.specs.Number.{literal_kind_number, kind_of}
+use Rattle.literals.specs.State.{relation_of}
 use Rattle.atoms.specs.declared.Atom.{Atom}
 use Rattle.atoms.specs.declared.Atom.TheVariants as atom
 use Rattle.atoms.specs.Fire.{Transition}
 use Rattle.atoms.specs.Pattern.{Pattern}
 
--- The relation of a fact, its first variable, and its second or 0.
-abbrev pub relation_of : Fact → ℕ
-relation_of (fact.Unary a x) = a
-relation_of (fact.Binary b x y) = b
-relation_of (fact.From b x) = b
-relation_of (fact.Into b x) = b
-
+-- The first variable of a fact, and its second or 0.
 abbrev pub first_of : Fact → ℕ
 first_of (fact.Unary a x) = x
 first_of (fact.Binary b x y) = x
