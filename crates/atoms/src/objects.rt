@@ -26,7 +26,7 @@ impl Objects {
     pub(crate) fn contains(&self, object: u8) -> bool
         ensures { result ≡ has_object self.now object }
     {
-        object < OBJECTS && self.has[usize::from(object)]
+        self.has.get(usize::from(object)).copied().unwrap_or(false)
     }
 
     /// Whether no object is in the set.
@@ -45,6 +45,7 @@ impl Objects {
     }
 
     /// Takes an object away.
+    // The bound is asked and then indexed, as in `Pairs`: by `get_mut` the proofs did not close.
     pub(crate) fn remove(&mut self, object: u8)
         ensures { (d : ℕ) → has_object self.new d ≡ (has_object self.old d && not (d == object)) }
     {
@@ -75,14 +76,18 @@ impl Pairs {
     pub(crate) fn contains(&self, first: u8, second: u8) -> bool
         ensures { result ≡ has_pair self.now first second }
     {
-        first < OBJECTS && self.from[usize::from(first)].contains(second)
+        self.from
+            .get(usize::from(first))
+            .is_some_and(|objects| objects.contains(second))
     }
 
     /// Whether some pair has this first object.
     pub(crate) fn has_from(&self, first: u8) -> bool
         ensures { Decides result ((e : ℕ) × (has_pair self.now first e ≡ true)) }
     {
-        first < OBJECTS && !self.from[usize::from(first)].is_empty()
+        self.from
+            .get(usize::from(first))
+            .is_some_and(|objects| !objects.is_empty())
     }
 
     /// Whether some pair has this second object.
