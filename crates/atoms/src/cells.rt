@@ -35,6 +35,7 @@ impl Cells {
     fn has(&self, fact: Fact) -> bool
         ensures { Decides result (TrueIn (state_of self.now) fact) }
     {
+        // Asked once, and then indexed: a `get` in each arm would say it four times.
         if fact.relation() >= RELATIONS {
             return false;
         }

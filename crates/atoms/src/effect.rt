@@ -26,6 +26,7 @@ impl Cells {
     fn lose(&mut self, fact: Fact)
         ensures { state_of self.new ≡ loses fact (state_of self.old) }
     {
+        // Asked once, and then indexed, as in `has`.
         if fact.relation() >= RELATIONS {
             return;
         }
