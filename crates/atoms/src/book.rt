@@ -2,6 +2,7 @@ ghost use Rattle.std.specs.Prelude.{◌≡◌};
 ghost use Rattle.atoms.specs.Book.{affirmed};
 
 use literals::{Fact, Literal};
+use thiserror::Error;
 
 /// A ground atom.
 #[derive(Clone, Copy, PartialEq, Eq, Debug)]
@@ -58,18 +59,18 @@ pub struct Book {
 }
 
 /// Why data is no book of atoms. Of several grounds the first listed counts.
-#[derive(Clone, Copy, PartialEq, Eq, Debug)]
+#[derive(Clone, Copy, PartialEq, Eq, Debug, Error)]
 pub enum BookRefusal {
-    /// The opening has more than 24 atoms.
+    #[error("the opening has more than 24 atoms")]
     OpeningLength,
-    /// An atom of the opening has a relation or an object that no model has.
+    #[error("an atom of the opening has a relation or an object that no model has")]
     OpeningRange,
-    /// There are not 1 to 32 rules.
+    #[error("there are not 1 to 32 rules")]
     Rules,
-    /// There are not 1 to 64 rows.
+    #[error("there are not 1 to 64 rows")]
     Rows,
-    /// A rule has too many variables or literals, a literal out of range, or an effect that affirms no atom.
+    #[error("a rule has too many variables or literals, a literal out of range, or an effect that affirms no atom")]
     RuleRange,
-    /// A row has too many variables or literals, or a literal out of range.
+    #[error("a row has too many variables or literals, or a literal out of range")]
     RowRange,
 }

@@ -82,10 +82,9 @@ impl Atoms {
     pub fn stands_in_opening(&self, row: usize) -> bool
         ensures { Decides result (StandsOf (atoms_book self.now) row (just (atoms_book self.now).opening)) }
     {
-        let opening = Cells::of(&self.book.opening);
         self.book
             .row(row)
-            .is_some_and(|row| row.stands_in(&opening))
+            .is_some_and(|row| row.stands_in(&Cells::of(&self.book.opening)))
     }
 }
 

@@ -15,6 +15,7 @@ pub const RELATIONS: u8 = 8;
 /// A state of a model: the objects of each unary relation, and the pairs of each binary one.
 #[derive(Clone, Copy)]
 pub struct Cells {
+    // `as` in a length, where `From` cannot be called.
     pub(super) unary: [Objects; RELATIONS as usize],
     pub(super) binary: [Pairs; RELATIONS as usize],
 }
@@ -34,14 +35,15 @@ impl Cells {
     fn has(&self, fact: Fact) -> bool
         ensures { Decides result (TrueIn (state_of self.now) fact) }
     {
+        // Asked once, and then indexed: a `get` in each arm would say it four times.
         if fact.relation() >= RELATIONS {
             return false;
         }
         match fact {
-            Fact::Unary { relation, x } => self.unary[relation as usize].contains(x),
-            Fact::Binary { relation, x, y } => self.binary[relation as usize].contains(x, y),
-            Fact::From { relation, x } => self.binary[relation as usize].has_from(x),
-            Fact::Into { relation, x } => self.binary[relation as usize].has_into(x),
+            Fact::Unary { relation, x } => self.unary[usize::from(relation)].contains(x),
+            Fact::Binary { relation, x, y } => self.binary[usize::from(relation)].contains(x, y),
+            Fact::From { relation, x } => self.binary[usize::from(relation)].has_from(x),
+            Fact::Into { relation, x } => self.binary[usize::from(relation)].has_into(x),
         }
     }
 

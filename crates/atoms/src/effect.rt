@@ -16,8 +16,8 @@ impl Cells {
         ensures { state_of self.new ≡ gains fact (state_of self.old) }
     {
         match fact {
-            Fact::Unary { relation, x } => self.unary[relation as usize].insert(x),
-            Fact::Binary { relation, x, y } => self.binary[relation as usize].insert(x, y),
+            Fact::Unary { relation, x } => self.unary[usize::from(relation)].insert(x),
+            Fact::Binary { relation, x, y } => self.binary[usize::from(relation)].insert(x, y),
             Fact::From { .. } | Fact::Into { .. } => {}
         }
     }
@@ -26,14 +26,15 @@ impl Cells {
     fn lose(&mut self, fact: Fact)
         ensures { state_of self.new ≡ loses fact (state_of self.old) }
     {
+        // Asked once, and then indexed, as in `has`.
         if fact.relation() >= RELATIONS {
             return;
         }
         match fact {
-            Fact::Unary { relation, x } => self.unary[relation as usize].remove(x),
-            Fact::Binary { relation, x, y } => self.binary[relation as usize].remove(x, y),
-            Fact::From { relation, x } => self.binary[relation as usize].remove_from(x),
-            Fact::Into { relation, x } => self.binary[relation as usize].remove_into(x),
+            Fact::Unary { relation, x } => self.unary[usize::from(relation)].remove(x),
+            Fact::Binary { relation, x, y } => self.binary[usize::from(relation)].remove(x, y),
+            Fact::From { relation, x } => self.binary[usize::from(relation)].remove_from(x),
+            Fact::Into { relation, x } => self.binary[usize::from(relation)].remove_into(x),
         }
     }
 

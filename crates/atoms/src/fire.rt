@@ -30,17 +30,23 @@ impl Rule {
         if !self.holds_choice(choice) {
             return Err(FireRefusal::ChoiceNotHeld);
         }
-        let condition = Renamed {
-            literals: &self.condition,
-            names: choice,
-        };
-        if !cells.all_hold(&condition) {
+        if !cells.all_hold(&self.condition_under(choice)) {
             return Err(FireRefusal::ConditionNotMet);
         }
         if self.effect_under(choice).is_contradictory() {
             return Err(FireRefusal::EffectContradictory);
         }
         Ok(())
+    }
+
+    /// The condition on the chosen objects.
+    fn condition_under<'a>(&'a self, choice: &'a [u8]) -> Renamed<'a>
+        ensures { renamed result ≡ chosen choice.now (transition_of self.now).condition }
+    {
+        Renamed {
+            literals: &self.condition,
+            names: choice,
+        }
     }
 
     /// The effect on the chosen objects.
@@ -57,7 +63,7 @@ impl Rule {
     fn holds_choice(&self, choice: &[u8]) -> bool
         ensures { Decides result (ChoiceHeld (transition_of self.now) choice.now) }
     {
-        choice.len() == self.variables as usize && choice.iter().all(|object| *object < OBJECTS)
+        choice.len() == usize::from(self.variables) && choice.iter().all(|object| *object < OBJECTS)
     }
 }
 

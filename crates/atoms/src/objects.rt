@@ -8,6 +8,7 @@ use crate::cells::OBJECTS;
 #[derive(Clone, Copy)]
 pub(crate) struct Objects {
     /// Whether each is in it.
+    // `as` in a length, where `From` cannot be called.
     pub(super) has: [bool; OBJECTS as usize],
 }
 
@@ -25,7 +26,7 @@ impl Objects {
     pub(crate) fn contains(&self, object: u8) -> bool
         ensures { result ≡ has_object self.now object }
     {
-        object < OBJECTS && self.has[object as usize]
+        self.has.get(usize::from(object)).copied().unwrap_or(false)
     }
 
     /// Whether no object is in the set.
@@ -40,15 +41,16 @@ impl Objects {
         requires { object < object_count }
         ensures { (d : ℕ) → has_object self.new d ≡ (has_object self.old d || object == d) }
     {
-        self.has[object as usize] = true;
+        self.has[usize::from(object)] = true;
     }
 
     /// Takes an object away.
+    // The bound is asked and then indexed, as in `Pairs`: by `get_mut` the proofs did not close.
     pub(crate) fn remove(&mut self, object: u8)
         ensures { (d : ℕ) → has_object self.new d ≡ (has_object self.old d && not (d == object)) }
     {
         if object < OBJECTS {
-            self.has[object as usize] = false;
+            self.has[usize::from(object)] = false;
         }
     }
 }
@@ -74,14 +76,18 @@ impl Pairs {
     pub(crate) fn contains(&self, first: u8, second: u8) -> bool
         ensures { result ≡ has_pair self.now first second }
     {
-        first < OBJECTS && self.from[first as usize].contains(second)
+        self.from
+            .get(usize::from(first))
+            .is_some_and(|objects| objects.contains(second))
     }
 
     /// Whether some pair has this first object.
     pub(crate) fn has_from(&self, first: u8) -> bool
         ensures { Decides result ((e : ℕ) × (has_pair self.now first e ≡ true)) }
     {
-        first < OBJECTS && !self.from[first as usize].is_empty()
+        self.from
+            .get(usize::from(first))
+            .is_some_and(|objects| !objects.is_empty())
     }
 
     /// Whether some pair has this second object.
@@ -96,7 +102,7 @@ impl Pairs {
         requires { (first < object_count) × (second < object_count) }
         ensures { (d e : ℕ) → has_pair self.new d e ≡ (has_pair self.old d e || (first == d && second == e)) }
     {
-        self.from[first as usize].insert(second);
+        self.from[usize::from(first)].insert(second);
     }
 
     /// Takes a pair away.
@@ -104,7 +110,7 @@ impl Pairs {
         ensures { (d e : ℕ) → has_pair self.new d e ≡ (has_pair self.old d e && not (d == first && e == second)) }
     {
         if first < OBJECTS {
-            self.from[first as usize].remove(second);
+            self.from[usize::from(first)].remove(second);
         }
     }
 
@@ -113,7 +119,7 @@ impl Pairs {
         ensures { (d e : ℕ) → has_pair self.new d e ≡ (has_pair self.old d e && not (d == first)) }
     {
         if first < OBJECTS {
-            self.from[first as usize] = Objects::new();
+            self.from[usize::from(first)] = Objects::new();
         }
     }
 

@@ -31,6 +31,7 @@ impl Row {
         requires so_far { Placed (pattern_of self.now) (state_of cells.now) placed.old.items }
         ensures { Outcome (pattern_of self.now) (state_of cells.now) placed.old.items placed.new.items result }
     {
+        // Narrowed without loss: at most `MAX_ROW_VARIABLES` are placed.
         let next = placed.len() as u8;
         if next == self.variables {
             return true;
@@ -51,10 +52,12 @@ impl Row {
         requires { 0 < length placed.now }
         ensures { Decides result (FitsAt (pattern_of self.now) (state_of cells.now) (at placed.now) (length placed.now - 1)) }
     {
-        let last = placed.len() - 1;
-        !placed[..last].contains(&placed[last])
+        let [earlier @ .., last] = placed else {
+            return false;
+        };
+        !earlier.contains(last)
             && self.literals.iter().all(|literal| {
-                usize::from(literal.fact.last_variable()) != last
+                usize::from(literal.fact.last_variable()) != earlier.len()
                     || cells.holds(literal.under(placed))
             })
     }

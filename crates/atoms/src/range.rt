@@ -103,7 +103,7 @@ impl Row {
     fn in_range(&self) -> bool
         ensures { Decides result (RowIn (pattern_of self.now)) }
     {
-        self.variables as usize <= MAX_ROW_VARIABLES
+        usize::from(self.variables) <= MAX_ROW_VARIABLES
             && self.literals.len() <= MAX_ROW_LITERALS
             && literals_in_range(&self.literals, self.variables)
     }
@@ -138,8 +138,5 @@ fn literals_in_range(literals: &[Literal], variables: u8) -> bool
 fn is_effective(literal: Literal) -> bool
     ensures { Decides result (EffectIn literal) }
 {
-    match literal.fact {
-        Fact::Unary { .. } | Fact::Binary { .. } => true,
-        Fact::From { .. } | Fact::Into { .. } => !literal.affirmed,
-    }
+    !literal.affirmed || matches!(literal.fact, Fact::Unary { .. } | Fact::Binary { .. })
 }

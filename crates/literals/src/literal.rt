@@ -73,7 +73,7 @@ pub enum Fact {
 impl Default for Fact {
     ghost is_default = { λ f. f ≡ Unary 0 0 };
 
-    // By hand, since a derive needs a variant without fields.
+    // An `ArrayVec` of literals is made of defaults. By hand, since a derive needs a variant without fields.
     fn default() -> Self {
         Fact::Unary { relation: 0, x: 0 }
     }

@@ -11,6 +11,8 @@ pub struct Renamed<'a> {
     pub names: &'a [u8],
 }
 
+// Each chain over the renamed literals is written out, and proves itself: with an `any` that took the test,
+// callers would have to prove that it may be called, and what it gives.
 impl Renamed<'_> {
     /// Whether a literal follows from these.
     pub fn follows(&self, literal: Literal) -> bool

@@ -3,6 +3,8 @@ ghost use Rattle.literals.specs.Follow.{follows, contradictory, Sound};
 
 use crate::literal::Literal;
 
+// Beside the methods of `Renamed`, since a slice of literals has no names to rename by, and a renamed one is not built.
+
 /// Whether a literal follows from a set: then it holds in every state where the set does.
 pub fn follows(literals: &[Literal], literal: Literal) -> bool
     ensures value { result ≡ follows literals.now literal }

@@ -55,6 +55,7 @@ impl<'a> RuleIntoRow<'a> {
         let mut names = ArrayVec::new();
         let mut rest = number;
         for _ in 0..self.rule.variables {
+            // Narrowed without loss: a digit is below the base, which is a `u8`.
             names.push((rest % base) as u8);
             rest /= base;
         }

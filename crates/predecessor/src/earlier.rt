@@ -8,6 +8,7 @@ use literals::Literal;
 pub const MAX_LITERALS: usize = 28;
 
 /// The literals of an earlier pattern.
+// No `Copy`, since an `ArrayVec` is none.
 #[derive(Clone, Drop)]
 pub struct Earlier {
     pub(super) literals: ArrayVec<Literal, MAX_LITERALS>,

@@ -26,8 +26,8 @@ fn loosens(denied: Fact, fact: Fact) -> bool
             },
             Fact::Into { relation: b, x },
         ) => c == b && z == x,
-        (Fact::From { relation: c, .. }, Fact::Into { relation: b, .. }) => c == b,
-        (Fact::Into { relation: c, .. }, Fact::From { relation: b, .. }) => c == b,
+        (Fact::From { relation: c, .. }, Fact::Into { relation: b, .. })
+        | (Fact::Into { relation: c, .. }, Fact::From { relation: b, .. }) => c == b,
         _ => false,
     }
 }
