@@ -19,10 +19,10 @@ impl Role {
     pub fn allows(self, kind: LiteralKind) -> bool
         ensures { result ≡ allowed self kind }
     {
-        match (self, kind) {
-            (Role::Effect, LiteralKind::From | LiteralKind::Into) => false,
-            _ => true,
-        }
+        !matches!(
+            (self, kind),
+            (Role::Effect, LiteralKind::From | LiteralKind::Into)
+        )
     }
 }
 
@@ -37,9 +37,7 @@ pub fn read_literal(
     ensures { LiteralRead role variables four place result }
 {
     let [number, relation, x, y] = four;
-    let Ok(kind) = LiteralKind::try_from(number) else {
-        return Err(LiteralFault::Kind { place });
-    };
+    let kind = LiteralKind::try_from(number).map_err(|_| LiteralFault::Kind { place })?;
     if !role.allows(kind) {
         return Err(LiteralFault::Kind { place });
     }
