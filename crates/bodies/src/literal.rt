@@ -90,18 +90,16 @@ pub fn read_atom(four: [u8; 4], place: usize) -> Result<Atom, FieldFault>
     if relation >= RELATIONS || first >= OBJECTS {
         return Err(fault);
     }
-    if number == u8::from(LiteralKind::Unary) && second == 0 {
-        return Ok(Atom::Unary {
+    match LiteralKind::try_from(number) {
+        Ok(LiteralKind::Unary) if second == 0 => Ok(Atom::Unary {
             relation,
             object: first,
-        });
-    }
-    if number == u8::from(LiteralKind::Binary) && second < OBJECTS {
-        return Ok(Atom::Binary {
+        }),
+        Ok(LiteralKind::Binary) if second < OBJECTS => Ok(Atom::Binary {
             relation,
             first,
             second,
-        });
+        }),
+        _ => Err(fault),
     }
-    Err(fault)
 }
