@@ -19,10 +19,10 @@ impl Role {
     pub fn allows(self, kind: LiteralKind) -> bool
         ensures { result ≡ allowed self kind }
     {
-        match (self, kind) {
-            (Role::Effect, LiteralKind::From | LiteralKind::Into) => false,
-            _ => true,
-        }
+        !matches!(
+            (self, kind),
+            (Role::Effect, LiteralKind::From | LiteralKind::Into)
+        )
     }
 }
 
@@ -37,9 +37,7 @@ pub fn read_literal(
     ensures { LiteralRead role variables four place result }
 {
     let [number, relation, x, y] = four;
-    let Ok(kind) = LiteralKind::try_from(number) else {
-        return Err(LiteralFault::Kind { place });
-    };
+    let kind = LiteralKind::try_from(number).map_err(|_| LiteralFault::Kind { place })?;
     if !role.allows(kind) {
         return Err(LiteralFault::Kind { place });
     }
@@ -92,18 +90,16 @@ pub fn read_atom(four: [u8; 4], place: usize) -> Result<Atom, FieldFault>
     if relation >= RELATIONS || first >= OBJECTS {
         return Err(fault);
     }
-    if number == u8::from(LiteralKind::Unary) && second == 0 {
-        return Ok(Atom::Unary {
+    match LiteralKind::try_from(number) {
+        Ok(LiteralKind::Unary) if second == 0 => Ok(Atom::Unary {
             relation,
             object: first,
-        });
-    }
-    if number == u8::from(LiteralKind::Binary) && second < OBJECTS {
-        return Ok(Atom::Binary {
+        }),
+        Ok(LiteralKind::Binary) if second < OBJECTS => Ok(Atom::Binary {
             relation,
             first,
             second,
-        });
+        }),
+        _ => Err(fault),
     }
-    Err(fault)
 }

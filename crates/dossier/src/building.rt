@@ -38,6 +38,7 @@ fn build_counts(heap: Global, net: Net, layers: Layers) -> Result<Piled<Counts>,
     requires observers { PileIn (counted_meaning (counted.book_of net)) (counted.book_of net) (layers_of layers) }
     ensures { IfOk result (λ k. piled_book k ≡ pile_book (counted.book_of net) (layers_of layers)) }
 {
+    // A match, and no `map_err`: the book is in range, so that every other refusal is unreachable.
     let counts = match Counts::new(heap, net) {
         Ok(counts) => counts,
         Err(NetRefusal::OutOfMemory) => return Err(AllocError),

@@ -14,7 +14,7 @@ use records::{Books, DossierFault, FormFault};
 use std::alloc::{AllocError, Global};
 
 /// Why no model is made of a file.
-#[derive(Clone, Copy)]
+#[derive(Clone, Copy, PartialEq, Eq, Debug)]
 pub enum NoModel {
     /// The file is not in form.
     NotInForm(FormFault),
@@ -37,6 +37,7 @@ impl NoModel {
     }
 }
 
+// Written out, not derived: the contracts read `from_gives`, which a derived `From` has not.
 impl From<DossierFault> for NoModel {
     ghost from_gives = { λ e r. r ≡ of_form (form_of e) };
 

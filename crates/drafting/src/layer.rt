@@ -34,8 +34,7 @@ impl Layers {
     {
         match self {
             Layers::None => 0,
-            Layers::One(layer) => layer.rows.len(),
-            Layers::Two(_, layer) => layer.rows.len(),
+            Layers::One(layer) | Layers::Two(_, layer) => layer.rows.len(),
         }
     }
 

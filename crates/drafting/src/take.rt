@@ -116,27 +116,33 @@ impl Draft {
     }
 
     /// An entry: a row, then the matching.
-    fn take_entry(mut self, heap: Global, body: Body<'_>) -> Result<Draft, RecordFault>
+    fn take_entry(self, heap: Global, body: Body<'_>) -> Result<Draft, RecordFault>
         requires { 1 ≤ length body.bytes.now }
         ensures { Took (progress_of self) EntryKind body.entry.bytes.now body.entry.place result }
     {
         let [row, matching @ ..] = body.bytes else {
             return Err(RecordFault::Field(FieldFault { place: body.place }));
         };
-        self.entries.push(Entry {
+        let mut entries = self.entries;
+        entries.push(Entry {
             row: usize::from(*row),
             matching: matching.to_vec(heap)?,
         })?;
-        self.section = Section::Entries;
-        Ok(self)
+        Ok(Draft {
+            section: Section::Entries,
+            entries,
+            ..self
+        })
     }
 
     /// The end.
-    fn take_end(mut self, body: Body<'_>) -> Draft
+    fn take_end(self, body: Body<'_>) -> Draft
         ensures { Took (progress_of self) EndKind body.entry.bytes.now body.entry.place (OkDraft result) }
     {
-        self.section = Section::End;
-        self
+        Draft {
+            section: Section::End,
+            ..self
+        }
     }
 }
 
@@ -173,6 +179,6 @@ fn places_fit(books: Books, kind: BookKind, places: u8) -> bool
     books.hold(kind)
         && match kind {
             BookKind::Atoms => places == 0,
-            BookKind::Counts => 1 <= places && usize::from(places) <= MAX_PLACES,
+            BookKind::Counts => (1..=MAX_PLACES).contains(&usize::from(places)),
         }
 }

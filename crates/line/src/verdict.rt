@@ -9,7 +9,7 @@ use std::error::Error;
 use std::fmt;
 
 /// What is to be said of a file.
-#[derive(Clone, Copy, PartialEq, Debug)]
+#[derive(Clone, Copy, PartialEq, Eq, Debug)]
 pub enum Verdict {
     /// It is in form, and its table is accepted.
     Accept,
@@ -36,7 +36,7 @@ impl From<LineRefusal> for u8 {
 }
 
 /// Why there is no line.
-#[derive(Clone, Copy, PartialEq, Debug)]
+#[derive(Clone, Copy, PartialEq, Eq, Debug)]
 pub enum NoLine {
     Refused(LineRefusal),
     OutOfMemory,
@@ -55,6 +55,7 @@ impl fmt::Display for NoLine {
 
 impl Error for NoLine {}
 
+// Written out, not derived: the contracts read `from_gives`, which a derived `From` has not.
 impl From<AllocError> for NoLine {
     ghost from_gives = { λ _ r. r ≡ MemoryVariant };
 

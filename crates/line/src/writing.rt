@@ -15,6 +15,7 @@ impl Verdict {
 
     /// Writes the line at the front of a buffer, and says how long it is. What follows in the buffer
     /// stays, and so does all of it where the line has no room or there is no memory.
+    // A length is given back, and no slice: the buffer is the caller's, who has it with what stays behind the line.
     pub fn write_line(self, heap: Global, buffer: &mut [u8]) -> Result<usize, NoLine>
         ensures { Written self buffer.old buffer.new result }
     {

@@ -28,6 +28,7 @@ pub fn read(heap: Global, books: Books, bytes: &[u8]) -> Result<Draft, DossierFa
     let mut rest = bytes;
     let mut place = 0;
     // A loop with `?`, and no iterator: a draft is moved through each record, and the end is the draft's to say.
+    // No `break` uses the label: it names the loop for its proof.
     'records: while !draft.ended() {
         let (number, body, after) = take_record(rest, place)?;
         let kind = RecordKind::try_from(number).map_err(|_| RecordFault::KindNotAllowed { place })?;

@@ -49,14 +49,14 @@ impl fmt::Display for FormFault {
 }
 
 /// A number beyond its range, in the record at a place.
-#[derive(Clone, Copy)]
+#[derive(Clone, Copy, PartialEq, Eq, Debug)]
 pub struct FieldFault {
     pub place: usize,
 }
 
 /// Which number of a literal is beyond its range, in the record at a place. It travels in the faults of a
 /// record and of a dossier, by `From`.
-#[derive(Clone, Copy)]
+#[derive(Clone, Copy, PartialEq, Eq, Debug)]
 pub enum LiteralFault {
     Kind { place: usize },
     Relation { place: usize },
@@ -79,7 +79,8 @@ impl LiteralFault {
 }
 
 /// Why a record is not taken.
-#[derive(Clone, Copy)]
+// `DossierFault::form` reports every fault as a `FormFault`: a fault prints nothing itself.
+#[derive(Clone, Copy, PartialEq, Eq, Debug)]
 pub enum RecordFault {
     KindNotAllowed { place: usize },
     WrongLength { place: usize },
@@ -89,7 +90,7 @@ pub enum RecordFault {
 }
 
 /// Why a file gives no dossier.
-#[derive(Clone, Copy)]
+#[derive(Clone, Copy, PartialEq, Eq, Debug)]
 pub enum DossierFault {
     TooLong,
     CutShort { place: usize },
@@ -131,6 +132,7 @@ impl DossierFault {
     }
 }
 
+// Written out, not derived: the contracts read `from_gives`, which a derived `From` has not.
 impl From<FieldFault> for RecordFault {
     ghost from_gives = { λ e r. r ≡ FieldVariant e };
 

@@ -10,19 +10,19 @@ pub enum BookKind {
 
 /// A number that no kind of book has.
 #[derive(Clone, Copy, PartialEq, Eq, Debug)]
-pub struct NoSuchBook;
+pub struct NoSuchBook(pub u8);
 
 /// The kind of book with a number.
 impl TryFrom<u8> for BookKind {
     type Error = NoSuchBook;
 
-    ghost try_from_gives = { λ n r. MatchResult r (λ k. book_number k ≡ n) (λ _. NoBook n) };
+    ghost try_from_gives = { λ n r. MatchResult r (λ k. book_number k ≡ n) (λ e. (e.0 ≡ n) × NoBook n) };
 
     fn try_from(number: u8) -> Result<BookKind, NoSuchBook> {
         match number {
             1 => Ok(BookKind::Atoms),
             2 => Ok(BookKind::Counts),
-            _ => Err(NoSuchBook),
+            _ => Err(NoSuchBook(number)),
         }
     }
 }
@@ -41,10 +41,7 @@ impl Books {
     pub fn hold(self, kind: BookKind) -> bool
         ensures { result ≡ hold self kind }
     {
-        match (self, kind) {
-            (Books::Any, _) | (Books::Counted, BookKind::Counts) => true,
-            (Books::Counted, BookKind::Atoms) => false,
-        }
+        !matches!((self, kind), (Books::Counted, BookKind::Atoms))
     }
 }
 
@@ -58,20 +55,20 @@ pub enum Observers {
 
 /// A number of observers that no dossier has.
 #[derive(Clone, Copy, PartialEq, Eq, Debug)]
-pub struct TooManyObservers;
+pub struct TooManyObservers(pub u8);
 
 /// So many observers.
 impl TryFrom<u8> for Observers {
     type Error = TooManyObservers;
 
-    ghost try_from_gives = { λ n r. MatchResult r (λ o. observers_number o ≡ n) (λ _. 2 < n) };
+    ghost try_from_gives = { λ n r. MatchResult r (λ o. observers_number o ≡ n) (λ e. (e.0 ≡ n) × (2 < n)) };
 
     fn try_from(number: u8) -> Result<Observers, TooManyObservers> {
         match number {
             0 => Ok(Observers::None),
             1 => Ok(Observers::One),
             2 => Ok(Observers::Two),
-            _ => Err(TooManyObservers),
+            _ => Err(TooManyObservers(number)),
         }
     }
 }

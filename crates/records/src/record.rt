@@ -21,13 +21,13 @@ pub enum RecordKind {
 
 /// A number that no kind of record has.
 #[derive(Clone, Copy, PartialEq, Eq, Debug)]
-pub struct NoSuchRecord;
+pub struct NoSuchRecord(pub u16);
 
 /// The kind of record with a number.
 impl TryFrom<u16> for RecordKind {
     type Error = NoSuchRecord;
 
-    ghost try_from_gives = { λ n r. MatchResult r (λ k. record_number k ≡ n) (λ _. NoRecord n) };
+    ghost try_from_gives = { λ n r. MatchResult r (λ k. record_number k ≡ n) (λ e. (e.0 ≡ n) × NoRecord n) };
 
     fn try_from(number: u16) -> Result<RecordKind, NoSuchRecord> {
         match number {
@@ -39,7 +39,7 @@ impl TryFrom<u16> for RecordKind {
             6 => Ok(RecordKind::ObserverRow),
             7 => Ok(RecordKind::Entry),
             8 => Ok(RecordKind::End),
-            _ => Err(NoSuchRecord),
+            _ => Err(NoSuchRecord(number)),
         }
     }
 }

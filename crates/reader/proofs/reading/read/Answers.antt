@@ -34,7 +34,7 @@ returns-in_err-kind-clause-reads c =
     let p = err_from_is_err_and c.from_residual-in_err-kind.result c.from_residual-in_err-kind.ensures.1 in
     let unended = not_from_Decides c.ended.result c.ended.ensures c.records-test.true in
     let e = c.in_ok-number.ensures in
-    let none : NoRecord c.in_ok-number.number = err_before _ c.try_from.result c.map_err.result _ c.in_err-kind.was c.map_err.ensures.variant c.try_from.ensures in
+    let none : NoRecord c.in_ok-number.number = err_before _ _ c.try_from.result c.map_err.result _ c.in_err-kind.was c.map_err.ensures.variant c.try_from.ensures in
     let fault : c.in_err-kind.field-0.0 ≡ KindNotAllowed c.records.place = search rules in
     rw (p.1, p.2, fault) (unknown c.records.invariant (omega arith) unended e.0 (λ k h. none k (h ∙ sym e.1)))
 
