@@ -13,7 +13,7 @@ pub fn read_each<X: Copy, Y: Drop, F: Fn(X) -> Result<Y, RecordFault>>(
     ensures { EachRead (F.post read) items.now result }
 {
     let mut values = Vec::new(heap);
-    // No `collect`: the contract says of a fault that its item is the first, which `collect` does not tell.
+    // No `try_collect`: it does not tell of an item that fails, and the contract says that it is the first.
     for item in items {
         values.push(read(*item)?)?;
     }
