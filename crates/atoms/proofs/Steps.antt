@@ -1,14 +1,18 @@
 -- Placing one variable more.
-use Rattle.std.proofs.Common.{◌≡◌, ℕ, ◌+◌, ◌-◌, ◌<◌, ◌≤◌, List, [], ◌∷◌, ◌++◌, length, take, sym, ap, ◌∙◌, subst, ap₂, arith, below_more, length-append}
+use Rattle.std.proofs.Common.{◌≡◌, ℕ, ◌+◌, ◌-◌, ◌<◌, ◌≤◌, Bool, cond, eqb, List, [], ◌∷◌, ◌++◌, length, take, sym, ap, ◌∙◌, subst, ap₂, inl, inr, arith, below_more, length-append}
 use Rattle.std.proofs.Math.ListN.{get_or-append}
 use Rattle.std.proofs.Math.Seq.{get_or-append_seam, take-append_seam}
 use Rattle.std.proofs.ByRecursion.{All-weaker}
+use Rattle.std.specs.List.{AllByRecursion}
+use Rattle.std.proofs.lemmas.Bool.{eq-eqb, ne_eqb, cases_eq}
+use Rattle.std.proofs.lemmas.List.{length-take}
+use Rattle.std.proofs.lemmas.List.Sums.{length-filter, count_by-le-length}
 use Rattle.literals.specs.declared.Fact.{Fact}
 use Rattle.literals.specs.declared.Fact.TheVariants.{Unary, Binary, From, Into}
 use Rattle.literals.specs.declared.Literal.{Literal}
 use Rattle.literals.specs.State.{State, Holds, fact_under, under, last_variable}
 use Rattle.atoms.specs.Pattern.{Pattern}
-use Rattle.atoms.specs.Placing.{at, MetAt, FitsAt, FirstFit, Placed, Extends}
+use Rattle.atoms.specs.Placing.{at, MetAt, due, AllHoldAt, New, FitsAt, FirstFit, Placed, Extends}
 
 -- A fact sees only its variables.
 fact_same : (f g : ℕ → ℕ) (x : Fact) → ((j : ℕ) → j ≤ last_variable x → f j ≡ g j) → fact_under f x ≡ fact_under g x
@@ -70,3 +74,36 @@ taken_off before xs ys v e t =
 -- No candidate before the k-th, and not the k-th.
 pub none_more : (P : ℕ → Type 0) (k : ℕ) → ((j : ℕ) → j < k → P j → ⊥) → (P k → ⊥) → (j : ℕ) → j < k + 1 → P j → ⊥
 none_more P k below here = below_more (λ j. P j → ⊥) k below here
+
+-- Literals that are due all hold where each of them all is met.
+module _ (s : State) (place : ℕ → ℕ) (i : ℕ) where
+  -- That they hold, where the first is one of them if this is true.
+  abbrev HoldIf : Literal → List Literal → Bool → Type 0
+  HoldIf l ls b = AllHoldAt s place (cond b (l ∷ due i ls) (due i ls))
+
+  met_due : (ls : List Literal) → AllHoldAt s place (due i ls) → AllByRecursion (MetAt s place i) ls
+  met_due [] h = tt
+  met_due (l ∷ ls) h = elim (cases_eq (last_variable l.fact) i) [
+    | inl e ↦ let all = subst (HoldIf l ls) (eq-eqb _ _ e) h in (λ _. all.0, met_due ls all.1)
+    | inr n ↦ (λ e. absurd (n e), met_due ls (subst (HoldIf l ls) (ne_eqb _ _ n) h))
+  ]
+
+  due_met : (ls : List Literal) → AllByRecursion (MetAt s place i) ls → AllHoldAt s place (due i ls)
+  due_met [] h = tt
+  due_met (l ∷ ls) h = elim (cases_eq (last_variable l.fact) i) [
+    | inl e ↦ subst (HoldIf l ls) (sym (eq-eqb _ _ e)) (h.0 e, due_met ls h.1)
+    | inr n ↦ subst (HoldIf l ls) (sym (ne_eqb _ _ n)) (due_met ls h.1)
+  ]
+
+  -- A variable fits where it is new and what is due holds.
+  pub fits_of : (p : Pattern) (ls : List Literal) → ls ≡ due i p.literals → New place i × AllHoldAt s place ls → FitsAt p s place i
+  fits_of p ls is h = (h.0, met_due p.literals (subst (AllHoldAt s place) is h.1))
+
+  pub of_fits : (p : Pattern) (ls : List Literal) → ls ≡ due i p.literals → FitsAt p s place i → New place i × AllHoldAt s place ls
+  of_fits p ls is h = (h.0, subst (AllHoldAt s place) (sym is) (due_met p.literals h.1))
+
+-- Those that are due among the first k of them are fewer than all.
+pub due_few : (i k : ℕ) (ls : List Literal) → k < length ls → length (due i (take k ls)) < length ls
+due_few i k ls h =
+    let test : Literal → Bool = λ l. eqb (last_variable l.fact) i in
+    omega (arith, length-filter test (take k ls), count_by-le-length test (take k ls), length-take k ls)

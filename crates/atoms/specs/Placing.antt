@@ -1,6 +1,6 @@
 -- Placing the variables of a pattern one after another.
-use Rattle.std.specs.Prelude.{◌≡◌, ℕ, ◌+◌, ◌<◌, Bool, true, false, cond, List, length, ◌≢◌, nat_lt, slice_index}
-use Rattle.std.specs.List.{AllByRecursion}
+use Rattle.std.specs.Prelude.{◌≡◌, ℕ, ◌+◌, ◌<◌, Bool, true, false, cond, List, length, ◌==◌, ◌≢◌, nat_lt, slice_index}
+use Rattle.std.specs.List.{AllByRecursion, filter}
 use Rattle.literals.specs.declared.Literal.{Literal}
 use Rattle.literals.specs.State.{State, Holds, under, last_variable}
 use Rattle.atoms.specs.Book.{object_count}
@@ -14,10 +14,21 @@ at placed i = slice_index placed i
 abbrev pub MetAt : State → (ℕ → ℕ) → ℕ → Literal → Type 0
 MetAt s place i l = last_variable l.fact ≡ i → Holds s (under place l)
 
+-- Those literals, and that such literals hold.
+abbrev pub due : ℕ → List Literal → List Literal
+due i = filter (λ l. last_variable l.fact == i)
+
+abbrev pub AllHoldAt : State → (ℕ → ℕ) → List Literal → Type 0
+AllHoldAt s place = AllByRecursion (λ l. Holds s (under place l))
+
+-- A variable is on another object than those before it.
+abbrev pub New : (ℕ → ℕ) → ℕ → Type 0
+New place i = (j : ℕ) → j < i → place j ≢ place i
+
 module _ (p : Pattern) (s : State) where
   -- A variable fits beside those before it: on another object, and every literal of which it is the last variable holds.
   abbrev pub FitsAt : (ℕ → ℕ) → ℕ → Type 0
-  FitsAt place i = ((j : ℕ) → j < i → place j ≢ place i) × AllByRecursion (MetAt s place i) p.literals
+  FitsAt place i = New place i × AllByRecursion (MetAt s place i) p.literals
 
   -- So do the first k.
   abbrev pub FirstFit : ℕ → (ℕ → ℕ) → Type 0

@@ -35,15 +35,16 @@ impl Cells {
     fn has(&self, fact: Fact) -> bool
         ensures { Decides result (TrueIn (state_of self.now) fact) }
     {
-        // Asked once, and then indexed: a `get` in each arm would say it four times.
-        if fact.relation() >= RELATIONS {
-            return false;
-        }
+        // The relation is asked in each arm, so that a fact is told apart once.
         match fact {
-            Fact::Unary { relation, x } => self.unary[usize::from(relation)].contains(x),
-            Fact::Binary { relation, x, y } => self.binary[usize::from(relation)].contains(x, y),
-            Fact::From { relation, x } => self.binary[usize::from(relation)].has_from(x),
-            Fact::Into { relation, x } => self.binary[usize::from(relation)].has_into(x),
+            Fact::Unary { relation, x } => relation < RELATIONS
+                && self.unary[usize::from(relation)].contains(x),
+            Fact::Binary { relation, x, y } => relation < RELATIONS
+                && self.binary[usize::from(relation)].contains(x, y),
+            Fact::From { relation, x } => relation < RELATIONS
+                && self.binary[usize::from(relation)].has_from(x),
+            Fact::Into { relation, x } => relation < RELATIONS
+                && self.binary[usize::from(relation)].has_into(x),
         }
     }
 

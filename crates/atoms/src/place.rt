@@ -1,14 +1,16 @@
-ghost use Rattle.std.specs.Prelude.{◌≡◌, ◌-◌, ◌<◌, ◌≤◌, length, Decides};
+ghost use Rattle.std.specs.Prelude.{◌≡◌, ℕ, ◌-◌, ◌<◌, ◌≤◌, List, [], ◌∷◌, ◌++◌, length, Decides};
 ghost use Rattle.arrayvec.specs.ArrayVec.{array_vec_len};
 ghost use Rattle.atoms.specs.Pattern.{StandsIn};
-ghost use Rattle.atoms.specs.Range.{RowIn, most_row_variables};
+ghost use Rattle.atoms.specs.Range.{RowIn, most_row_literals, most_row_variables};
 ghost use Rattle.atoms.specs.Data.{pattern_of};
 ghost use Rattle.atoms.specs.Cells.{state_of};
-ghost use Rattle.atoms.specs.Placing.{at, FitsAt, Placed, candidate, Outcome};
+ghost use Rattle.atoms.specs.Placing.{at, New, AllHoldAt, due, Placed, candidate, Outcome};
 
 use crate::book::Row;
 use crate::cells::{Cells, OBJECTS};
+use crate::range::MAX_ROW_LITERALS;
 use arrayvec::ArrayVec;
+use literals::Literal;
 
 /// The most variables of a row.
 pub const MAX_ROW_VARIABLES: usize = 5;
@@ -28,6 +30,7 @@ impl Row {
     fn place(&self, cells: &Cells, placed: &mut ArrayVec<u8, MAX_ROW_VARIABLES>) -> bool
         requires within { array_vec_len placed.old ≤ self.now.variables }
         requires few { self.now.variables ≤ most_row_variables }
+        requires short { length self.now.literals.items ≤ most_row_literals }
         requires so_far { Placed (pattern_of self.now) (state_of cells.now) placed.old.items }
         ensures { Outcome (pattern_of self.now) (state_of cells.now) placed.old.items placed.new.items result }
     {
@@ -36,31 +39,46 @@ impl Row {
         if next == self.variables {
             return true;
         }
+        let due = self.due(next);
+        // One place for all candidates: each is written over the one before it.
+        placed.push(0);
         for k in 0..=OBJECTS {
-            placed.push(candidate(next, k));
-            if self.fits(cells, placed) && self.place(cells, placed) {
+            set_last(placed, candidate(next, k));
+            if fits(cells, placed, &due) && self.place(cells, placed) {
                 return true;
             }
-            placed.pop();
         }
+        placed.pop();
         false
     }
 
-    /// Whether the variable that was placed last fits beside those before it: on another object, and
-    /// every literal of which it is the last variable holds.
-    fn fits(&self, cells: &Cells, placed: &[u8]) -> bool
-        requires { 0 < length placed.now }
-        ensures { Decides result (FitsAt (pattern_of self.now) (state_of cells.now) (at placed.now) (length placed.now - 1)) }
+    /// The literals of which this is the last variable: found once for all its candidates.
+    fn due(&self, variable: u8) -> ArrayVec<Literal, MAX_ROW_LITERALS>
+        requires { length self.now.literals.items ≤ most_row_literals }
+        ensures { result.items ≡ due variable self.now.literals.items }
     {
-        let [earlier @ .., last] = placed else {
-            return false;
-        };
-        !earlier.contains(last)
-            && self.literals.iter().all(|literal| {
-                usize::from(literal.fact.last_variable()) != earlier.len()
-                    || cells.holds(literal.under(placed))
-            })
+        let mut due = ArrayVec::new();
+        for literal in &self.literals {
+            if literal.fact.last_variable() == variable {
+                due.push(*literal);
+            }
+        }
+        due
     }
+}
+
+/// Whether the variable that was placed last fits beside those before it: on another object, and
+/// every literal that is due holds.
+fn fits(cells: &Cells, placed: &[u8], due: &[Literal]) -> bool
+    requires { 0 < length placed.now }
+    ensures { Decides result (New (at placed.now) (length placed.now - 1) × AllHoldAt (state_of cells.now) (at placed.now) due.now) }
+{
+    let [earlier @ .., last] = placed else {
+        return false;
+    };
+    let last = *last;
+    !earlier.iter().any(|object| *object == last)
+        && due.iter().all(|literal| cells.holds(literal.under(placed)))
 }
 
 /// The objects to try for a variable, by number: those of the model, and one beyond it.
@@ -69,4 +87,13 @@ fn candidate(variable: u8, k: u8) -> u8
     ensures { result ≡ candidate variable k }
 {
     if k < OBJECTS { k } else { OBJECTS + variable }
+}
+
+/// Puts an object where the last one is.
+fn set_last(placed: &mut ArrayVec<u8, MAX_ROW_VARIABLES>, object: u8)
+    ensures { (before : List ℕ) (x : ℕ) → placed.old.items ≡ before ++ x ∷ [] → placed.new.items ≡ before ++ object ∷ [] }
+{
+    if let Some(last) = placed.last_mut() {
+        *last = object;
+    }
 }

@@ -1,8 +1,8 @@
 -- What an effect of objects makes of literals: what held before, what holds after.
-use Rattle.std.specs.Prelude.{◌≡◌, ℕ, Bool, true, false, not, ◌&&◌, ◌||◌, ◌⊎◌, List, ◌≢◌, refl}
-use Rattle.std.proofs.Common.{inl, inr}
+use Rattle.std.specs.Prelude.{◌≡◌, ℕ, Bool, true, false, not, ◌&&◌, ◌||◌, ◌⊎◌, List, ◌==◌, ◌≢◌, refl}
+use Rattle.std.proofs.Common.{sym, inl, inr}
 use Rattle.std.specs.List.{AllByRecursion}
-use Rattle.std.proofs.lemmas.Bool.{false≢true}
+use Rattle.std.proofs.lemmas.Bool.{and_parts, and_from, or_cases, or_left, not_from_false, eqb-true, eq-eqb, false≢true}
 use Rattle.std.proofs.lemmas.Grind.{common_steps}
 use Rattle.std.proofs.Common.{arith}
 use Rattle.literals.specs.declared.Fact.{Fact}
@@ -20,12 +20,24 @@ use Rattle.predecessor.specs.Earlier.{loosens, thins, loosened, made_true, made_
 abbrev lit : Fact → Bool → Literal
 lit f b = record { fact = f; affirmed = b }
 
--- an atom that an effect brings, or leaves, by whether it was there and what the effect says of it
+-- an atom that an effect leaves, or brings, by whether it was there and what the effect says of it
+left : (before gained lost : Bool) → before ≡ true → lost ≡ false → ((before || gained) && not lost) ≡ true
+left before gained lost h k = and_from (before || gained) (not lost) (or_left before gained h) (not_from_false lost k)
+
 come : (before gained lost : Bool) → gained ≡ true → lost ≡ false → ((before || gained) && not lost) ≡ true
 come before gained lost h k = grind (arith, common_steps)
 
+was : (before gained lost : Bool) → ((before || gained) && not lost) ≡ true → (before ≡ true) ⊎ (gained ≡ true)
+was before gained lost e = or_cases before gained (and_parts (before || gained) (not lost) e).0
+
 not_lost : (before gained lost : Bool) → ((before || gained) && not lost) ≡ true → lost ≢ true
 not_lost before gained lost e h = grind (arith, common_steps)
+
+same : (a : ℕ) → (a == a) ≡ true
+same a = eq-eqb a a refl
+
+turned : (a b : ℕ) → (a == b) ≡ true → (b == a) ≡ true
+turned a b e = eq-eqb b a (sym (eqb-true a b e))
 
 module _ (b x z : ℕ) where
   -- a denial from which that of b(x, z) follows

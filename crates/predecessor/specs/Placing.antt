@@ -6,6 +6,10 @@ use Rattle.std.proofs.lemmas.Bool.{and_from, cond-true, cond-false, eq-eqb, ne_e
 use Rattle.atoms.specs.Pattern.{Different}
 use Rattle.predecessor.specs.Proper.{proper}
 
+-- two lists with the same first and the same rest
+cons_same : {x y : ℕ} {xs ys : List ℕ} → x ≡ y → xs ≡ ys → x ∷ xs ≡ y ∷ ys
+cons_same p q = λ i. p i ∷ q i
+
 -- Which of the first n variables an object is, if any.
 found : (place : ℕ → ℕ) (n d : ℕ) → ((i : ℕ) × (i < n) × (place i ≡ d)) ⊎ ((i : ℕ) → i < n → place i ≢ d)
 found place zero d = inr (λ i h e. omega arith)

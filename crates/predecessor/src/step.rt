@@ -50,17 +50,16 @@ impl StepBack<'_> {
         ensures { literals_of result ≡ literals_before (rule_of self.now.pair) (row_of self.now.pair) self.now.names.items }
     {
         let effect = self.effect();
-        // Pushed one by one, since `extend` would answer for want of room, which there never is.
-        let mut literals = ArrayVec::new();
+        let mut earlier = Earlier::new();
         for literal in &self.pair.rule.condition {
-            literals.push(literal.under(&self.names));
+            earlier.push(literal.under(&self.names));
         }
         for literal in &self.pair.row.literals {
             if stays(&effect, *literal) {
-                literals.push(*literal);
+                earlier.push(*literal);
             }
         }
-        Earlier { literals }
+        earlier
     }
 
     /// The sort of the case.

@@ -3,13 +3,19 @@ use Rattle.std.proofs.Common.{◌≡◌, ℕ, true, List, get_or, drop, leb, ref
 use Rattle.std.proofs.lemmas.Bool.{and_parts}
 use Rattle.records.specs.declared.Books.{Books}
 use Rattle.records.specs.declared.Books.TheVariants.{Counted, Any}
+use Rattle.records.specs.declared.DossierFault.TheVariants.{Record}
+use Rattle.records.specs.declared.RecordFault.{RecordFault}
+use Rattle.records.specs.declared.RecordFault.TheVariants.{KindNotAllowed, WrongLength, Field, Literal, OutOfMemory}
 use Rattle.records.specs.declared.RecordKind.{RecordKind}
 use Rattle.records.specs.declared.RecordKind.TheVariants as kind
 use Rattle.records.specs.Bytes.{body_at}
+use Rattle.records.specs.Number.{hold}
 use Rattle.drafting.specs.Book.{Book, counted, atomic, none, places_in, with_opening, with_rule, with_row}
+use Rattle.drafting.specs.Drafted.{FaultOf}
 use Rattle.drafting.specs.Progress.{Progress, ranged, advance}
 use Rattle.reader.specs.Dossier.{Holds}
 use Rattle.reader.specs.Form.{At, begins, more}
+use Rattle.reader.specs.Read.{FaultIn}
 use Rattle.reader.proofs.Well.{begins_well}
 
 none_held : (books : Books) → Holds books none
@@ -53,3 +59,11 @@ held_at {books = books} {bytes = bytes} (more {p} {g} {k} before here a l r) = h
 
 pub holds : {books : Books} {bytes : List ℕ} {p : ℕ} {g : Progress} → At books bytes p g → Holds books g.book
 holds {g = g} at = let h = held_at at in subst (λ (b : Books). Holds b g.book) h.0 h.1
+
+-- A fault that the next record gives is one that such a file can have.
+pub fault_in : {books : Books} {bytes : List ℕ} {p : ℕ} {g : Progress} → At books bytes p g → (e : RecordFault) → FaultOf g.book e → FaultIn books (Record e)
+fault_in at (KindNotAllowed q) of = tt
+fault_in at (WrongLength q) of = tt
+fault_in at (Field f) of = tt
+fault_in {books = books} at (Literal f) of = subst (λ k. hold books k ≡ true) of (holds at)
+fault_in at OutOfMemory of = tt

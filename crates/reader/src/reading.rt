@@ -1,8 +1,8 @@
 ghost use Rattle.reader.specs.Form.{OneVerdict};
-ghost use Rattle.std.specs.Prelude.{IfOk};
+ghost use Rattle.std.specs.Prelude.{IfErr, IfOk};
 ghost use Rattle.reader.specs.Dossier.{dossier_of, Holds, InRange};
 ghost use Rattle.drafting.specs.Drafted.{draft_book_of, progress_of};
-ghost use Rattle.reader.specs.Read.{Read};
+ghost use Rattle.reader.specs.Read.{FaultIn, Read};
 ghost use Rattle.reader.specs.Encode.{EncodingLaw};
 
 use drafting::Draft;
@@ -16,6 +16,7 @@ pub const MAX_BYTES: usize = 65_535;
 #[tactic(auto, using(crate::proofs::OneVerdict::one_verdict, crate::proofs::EncodingLaw::encoding_law))]
 pub fn read(heap: Global, books: Books, bytes: &[u8]) -> Result<Draft, DossierFault>
     ensures reads { Read books bytes.now result }
+    ensures faulted { IfErr result (FaultIn books) }
     ensures alone { OneVerdict books bytes.now }
     ensures ranged { IfOk result (λ d. InRange (dossier_of (progress_of d))) }
     ensures held { IfOk result (λ d. Holds books (draft_book_of d.book)) }

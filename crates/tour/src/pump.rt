@@ -1,5 +1,5 @@
 // The book of one pump: places 0 token, 1 holding, 2 waiting.
-use counts::{Counts, Net, Row, Rule};
+use counts::{Counts, Net, NetRefusal, Row, Rule};
 use judge::{Call, Entry};
 use std::alloc::{AllocError, Global};
 
@@ -25,7 +25,8 @@ fn rules(heap: Global, to_hold: [u8; 3]) -> Result<Vec<Rule>, AllocError> {
     ]?)
 }
 
-/// The book of the pump with these rows, where a customer who is to hold it takes `to_hold`.
+/// The book of the pump with these rows, where a customer who is to hold it takes `to_hold`. Want of memory
+/// has one text, whatever it is wanted for.
 pub fn book_with(heap: Global, to_hold: [u8; 3], rows: Vec<Row>) -> anyhow::Result<Counts> {
     let rules = rules(heap, to_hold)?;
     let opening = [1, 0, 0].to_vec(heap)?;
@@ -34,7 +35,10 @@ pub fn book_with(heap: Global, to_hold: [u8; 3], rows: Vec<Row>) -> anyhow::Resu
         rules,
         rows,
     };
-    Ok(Counts::new(heap, net)?)
+    Counts::new(heap, net).map_err(|refusal| match refusal {
+        NetRefusal::OutOfMemory => AllocError.into(),
+        out_of_range => out_of_range.into(),
+    })
 }
 
 /// What a customer takes to hold the pump: the token, and a place among those who wait.

@@ -8,11 +8,11 @@ use Rattle.records.specs.Bytes.{length_at}
 use Rattle.records.specs.Number.{record_number, NoRecord}
 use Rattle.records.proofs.Unmapped.{err_before}
 use Rattle.drafting.specs.Drafted.{progress_of}
-use Rattle.drafting.proofs.Taking.{answered_of}
+use Rattle.drafting.proofs.Taking.{answered_of, fault_of}
 use Rattle.reader.specs.Form.{At, begins, too_long}
 use Rattle.reader.proofs.InForm.{left_after_end, cut, unknown, refused, read_on}
 use Rattle.reader.proofs.Well.{WellAt, well, in_range}
-use Rattle.reader.proofs.Holding.{holds}
+use Rattle.reader.proofs.Holding.{holds, fault_in}
 use Rattle.reader.proofs.EncodingLaw.{octets}
 use Rattle.reader.proofs.reading.read.Goals as goal
 
@@ -47,6 +47,11 @@ returns-in_err-draft-clause-reads c =
     let made = c.new.ensures in
     rw (p.1, p.2) (refused c.records.invariant (omega arith) unended e.0 c.in_ok-kind.kind (sym e.1 ∙ sym kind) c.in_ok-number.body.bytes.now e.3 e.4 c.in_err-draft.field-0.0
     (answered_of (progress_of c.records.draft) c.new.result c.in_ok-kind.kind c.in_ok-number.body.bytes.now c.records.place (Err c.in_err-draft.field-0.0) made.0 made.2 (made.1 ∙ e.2) c.in_err-draft.ensures))
+
+pub returns-in_err-draft-clause-faulted : goal.returns-in_err-draft-clause-faulted
+returns-in_err-draft-clause-faulted c =
+    let p = err_from_is_err_and c.from_residual-in_err-draft.result c.from_residual-in_err-draft.ensures.1 in
+    rw (p.1, p.2) (fault_in c.records.invariant.before c.in_err-draft.field-0.0 (fault_of (progress_of c.records.draft) _ _ _ c.in_err-draft.field-0.0 c.in_err-draft.ensures))
 
 pub records-smaller : goal.records-smaller
 records-smaller c =

@@ -1,4 +1,4 @@
-use Rattle.std.proofs.Common.{◌≡◌, ℕ, ◌-◌, ◌<◌, length}
+use Rattle.std.proofs.Common.{◌≡◌, ℕ, ◌-◌, ◌<◌, [], ◌∷◌, ◌++◌, length}
 use Rattle.atoms.specs.Data.{pattern_of}
 use Rattle.atoms.specs.Cells.{state_of}
 use Rattle.atoms.specs.Placing.{FirstFit, Tried, Extends, candidate}
@@ -9,6 +9,6 @@ decreases-place l = l.self.now.variables - length l.placed.now.items
 
 abbrev pub invariant-loop-k : goal.invariant-loop-k
 invariant-loop-k l = record {
-  same : l.placed.items ≡ l.initial.placed.items;
-  none : (place : ℕ → ℕ) → Extends l.initial.placed.items place → Tried l.self.variables place → FirstFit (pattern_of l.self) (state_of l.cells) l.self.variables place → (k : ℕ) → k < l.k → place l.next ≡ candidate l.next k → ⊥;
+  same : (x : ℕ) × (l.placed.items ≡ l.fn.placed.items ++ x ∷ []);
+  none : (place : ℕ → ℕ) → Extends l.fn.placed.items place → Tried l.self.variables place → FirstFit (pattern_of l.self) (state_of l.cells) l.self.variables place → (k : ℕ) → k < l.k → place l.next ≡ candidate l.next k → ⊥;
 }
