@@ -75,9 +75,9 @@ taken_off before xs ys v e t =
 pub none_more : (P : ℕ → Type 0) (k : ℕ) → ((j : ℕ) → j < k → P j → ⊥) → (P k → ⊥) → (j : ℕ) → j < k + 1 → P j → ⊥
 none_more P k below here = below_more (λ j. P j → ⊥) k below here
 
--- Literals that are due all hold where each of them all is met.
+-- The literals that are due hold just where every literal is met.
 module _ (s : State) (place : ℕ → ℕ) (i : ℕ) where
-  -- That they hold, where the first is one of them if this is true.
+  -- That those that are due hold, with the first one among them where b is true.
   abbrev HoldIf : Literal → List Literal → Bool → Type 0
   HoldIf l ls b = AllHoldAt s place (cond b (l ∷ due i ls) (due i ls))
 
@@ -102,7 +102,7 @@ module _ (s : State) (place : ℕ → ℕ) (i : ℕ) where
   pub of_fits : (p : Pattern) (ls : List Literal) → ls ≡ due i p.literals → FitsAt p s place i → New place i × AllHoldAt s place ls
   of_fits p ls is h = (h.0, subst (AllHoldAt s place) (sym is) (due_met p.literals h.1))
 
--- Those that are due among the first k of them are fewer than all.
+-- Of the first k literals fewer are due than there are in all.
 pub due_few : (i k : ℕ) (ls : List Literal) → k < length ls → length (due i (take k ls)) < length ls
 due_few i k ls h =
     let test : Literal → Bool = λ l. eqb (last_variable l.fact) i in

@@ -14,7 +14,7 @@ at placed i = slice_index placed i
 abbrev pub MetAt : State → (ℕ → ℕ) → ℕ → Literal → Type 0
 MetAt s place i l = last_variable l.fact ≡ i → Holds s (under place l)
 
--- Those literals, and that such literals hold.
+-- The literals of which this is the last variable; and that all of some literals hold.
 abbrev pub due : ℕ → List Literal → List Literal
 due i = filter (λ l. last_variable l.fact == i)
 

@@ -4,7 +4,7 @@ ghost use Rattle.atoms.specs.Pattern.{StandsIn};
 ghost use Rattle.atoms.specs.Range.{RowIn, most_row_literals, most_row_variables};
 ghost use Rattle.atoms.specs.Data.{pattern_of};
 ghost use Rattle.atoms.specs.Cells.{state_of};
-ghost use Rattle.atoms.specs.Placing.{at, New, AllHoldAt, due, Placed, candidate, Outcome};
+ghost use Rattle.atoms.specs.Placing.{at, New, AllHoldAt, due as due_of, Placed, candidate, Outcome};
 
 use crate::book::Row;
 use crate::cells::{Cells, OBJECTS};
@@ -39,7 +39,8 @@ impl Row {
         if next == self.variables {
             return true;
         }
-        let due = self.due(next);
+        let mut due = ArrayVec::new();
+        self.find_due(next, &mut due);
         // One place for all candidates: each is written over the one before it.
         placed.push(0);
         for k in 0..=OBJECTS {
@@ -52,18 +53,18 @@ impl Row {
         false
     }
 
-    /// The literals of which this is the last variable: found once for all its candidates.
-    fn due(&self, variable: u8) -> ArrayVec<Literal, MAX_ROW_LITERALS>
-        requires { length self.now.literals.items ≤ most_row_literals }
-        ensures { result.items ≡ due variable self.now.literals.items }
+    /// Adds the literals of which this is the last variable, found once for all its candidates.
+    fn find_due(&self, variable: u8, due: &mut ArrayVec<Literal, MAX_ROW_LITERALS>)
+        requires few { length self.now.literals.items ≤ most_row_literals }
+        requires none { due.old.items ≡ [] }
+        ensures { due.new.items ≡ due_of variable self.now.literals.items }
     {
-        let mut due = ArrayVec::new();
+        // Pushed one by one, since `extend` would answer for want of room, which there never is.
         for literal in &self.literals {
             if literal.fact.last_variable() == variable {
                 due.push(*literal);
             }
         }
-        due
     }
 }
 
@@ -76,6 +77,7 @@ fn fits(cells: &Cells, placed: &[u8], due: &[Literal]) -> bool
     let [earlier @ .., last] = placed else {
         return false;
     };
+    // One by one, and not by `contains`, which is made for long lists.
     let last = *last;
     !earlier.iter().any(|object| *object == last)
         && due.iter().all(|literal| cells.holds(literal.under(placed)))

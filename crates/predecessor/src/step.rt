@@ -50,6 +50,7 @@ impl StepBack<'_> {
         ensures { literals_of result ≡ literals_before (rule_of self.now.pair) (row_of self.now.pair) self.now.names.items }
     {
         let effect = self.effect();
+        // Pushed one by one: a case always has room.
         let mut earlier = Earlier::new();
         for literal in &self.pair.rule.condition {
             earlier.push(literal.under(&self.names));

@@ -3,7 +3,7 @@
 
 mod reading;
 
-// What is read, and what can be at fault, under the names that a reader's user needs.
+// The names that stood at this crate's root when it had drafts, records and faults of its own.
 pub use drafting::{Draft, Layer, Layers};
 pub use reading::{MAX_BYTES, read};
 pub use records::{DossierFault, FormFault, FormGround, Record, RecordKind, Section};

@@ -19,7 +19,7 @@ place-requires t c =
     let put : c.set_last.new.placed.items ≡ before ++ v ∷ [] = c.set_last.ensures before c.loop-k.invariant.same.0 c.loop-k.invariant.same.1 in
     let xs : List ℕ = c.deref.result.now in
     let last : ℕ = length xs - 1 in
-    let all_due : c.deref-in-loop-k.result.now ≡ due last p.literals = c.deref-in-loop-k.ensures.0 ∙ c.due-due.ensures ∙ ap (λ (i : ℕ). due i p.literals) (omega (arith, c.len-next.ensures.value, ap length (c.deref.ensures.0 ∙ put), one_more before v)) in
+    let all_due : c.deref-in-loop-k.result.now ≡ due last p.literals = c.deref-in-loop-k.ensures.0 ∙ c.find_due.ensures ∙ ap (λ (i : ℕ). due i p.literals) (omega (arith, c.len-next.ensures.value, ap length (c.deref.ensures.0 ∙ put), one_more before v)) in
     let longer : length c.set_last.new.placed.items ≡ length before + 1 = ap length put ∙ one_more before v in (
       search (rules, longer),
       (
@@ -44,7 +44,7 @@ loop-k-preserved t c =
     let put : c.set_last.new.placed.items ≡ before ++ v ∷ [] = c.set_last.ensures before c.loop-k.invariant.same.0 c.loop-k.invariant.same.1 in
     let xs : List ℕ = c.deref.result.now in
     let last : ℕ = length xs - 1 in
-    let all_due : c.deref-in-loop-k.result.now ≡ due last p.literals = c.deref-in-loop-k.ensures.0 ∙ c.due-due.ensures ∙ ap (λ (i : ℕ). due i p.literals) (omega (arith, c.len-next.ensures.value, ap length (c.deref.ensures.0 ∙ put), one_more before v)) in
+    let all_due : c.deref-in-loop-k.result.now ≡ due last p.literals = c.deref-in-loop-k.ensures.0 ∙ c.find_due.ensures ∙ ap (λ (i : ℕ). due i p.literals) (omega (arith, c.len-next.ensures.value, ap length (c.deref.ensures.0 ∙ put), one_more before v)) in
     let value : (f : ℕ → ℕ) → f next ≡ candidate next c.loop-k.k → f (length before) ≡ v = λ f here. ap f (sym c.len-next.ensures.value) ∙ here ∙ sym c.candidate.ensures in
     elim c.else-fits.branch [
       | else-fits-via-then-fits+else-place w ↦ record {
